@@ -1,0 +1,60 @@
+// What a call can come to, and the pair of plain numbers that answers it.
+ghost use mathlib.Core.Path.{_≡_};
+ghost use Rattle.systems.specs.Outcomes.{answer-of};
+
+// The closed list of outcomes. Choices, fields, places and positions are those that docs/RULES.md names.
+#[derive(Clone, Copy)]
+pub enum Outcome {
+    // done; the value is the one that the call promises
+    Accepted(usize),
+    // a field is outside its range, or names a step or input that is not entered; fields count from 1
+    FieldOutside(u32),
+    // a draft takes no more of what was to be added
+    NoRoom,
+    // the state is none of the system's
+    Unfit,
+    // the state is bad
+    Bad,
+    // the state stands at this place already
+    Listed(usize),
+    // the table takes no more states
+    Full,
+    // the table has no such place
+    NoSuchPlace,
+    // this choice leads to a bad state
+    LeadsToBad(u32),
+    // this choice leads to a state that the table lacks
+    LeadsOutside(u32),
+    // the table lacks the first state
+    FirstNotListed,
+    // this place, the lowest such, is not settled
+    Unsettled(usize),
+    // the choice at this position, the first such, is not legal; positions count from 0
+    NotLegal(usize),
+    // the choices are a run of this length, and its last state is not bad
+    EndsNotBad(usize),
+}
+
+impl Outcome {
+    // The outcome's number, and its value or 0.
+    pub fn answer(self) -> (u32, usize)
+        ensures { λ r. ⌜ r ≡ answer-of self ⌝ }
+    {
+        match self {
+            Outcome::Accepted(value) => (0, value),
+            Outcome::FieldOutside(field) => (3, field as usize),
+            Outcome::NoRoom => (4, 0),
+            Outcome::Unfit => (8, 0),
+            Outcome::Bad => (9, 0),
+            Outcome::Listed(place) => (10, place),
+            Outcome::Full => (11, 0),
+            Outcome::NoSuchPlace => (12, 0),
+            Outcome::LeadsToBad(choice) => (13, choice as usize),
+            Outcome::LeadsOutside(choice) => (14, choice as usize),
+            Outcome::FirstNotListed => (15, 0),
+            Outcome::Unsettled(place) => (16, place),
+            Outcome::NotLegal(position) => (17, position),
+            Outcome::EndsNotBad(length) => (18, length),
+        }
+    }
+}

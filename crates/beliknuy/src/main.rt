@@ -9,27 +9,50 @@ use std::io;
 use systems::judge::judge;
 
 const FILL: u32 = 1;
+
 const HEAT: u32 = 2;
+
 const REACT: u32 = 3;
+
 const DRAIN: u32 = 4;
+
 const CLEAN: u32 = 5;
+
 const HEAT_EMPTY: u32 = 6;
 
 // Inputs: 0 waits, 1 goes on to the next step, 2 stops the batch.
 const GO_ON: u32 = 1;
+
 const STOP: u32 = 2;
 
 // How many steps of the chart are listed: all but the two forbidden ones.
 const LISTED: usize = 6;
 
-fn add_step(rt: &LibcRuntime, draft: &mut DraftChart, name: &str, forbidden: u32) -> io::Result<()> {
+fn add_step(
+    rt: &LibcRuntime,
+    draft: &mut DraftChart,
+    name: &str,
+    forbidden: u32,
+) -> io::Result<()> {
     let (number, value) = draft.add_step(forbidden);
-    println!(rt, "add step {name}, forbidden {forbidden}: {number} {value}")
+    println!(
+        rt,
+        "add step {name}, forbidden {forbidden}: {number} {value}"
+    )
 }
 
-fn set_lead(rt: &LibcRuntime, draft: &mut DraftChart, step: u32, input: u32, next: u32) -> io::Result<()> {
+fn set_lead(
+    rt: &LibcRuntime,
+    draft: &mut DraftChart,
+    step: u32,
+    input: u32,
+    next: u32,
+) -> io::Result<()> {
     let (number, value) = draft.set_lead(step, input, next);
-    println!(rt, "set lead from step {step} by input {input} to step {next}: {number} {value}")
+    println!(
+        rt,
+        "set lead from step {step} by input {input} to step {next}: {number} {value}"
+    )
 }
 
 // Enters the reactor's steps, inputs and leads; after cleaning, going on leads to the given step.
@@ -88,7 +111,10 @@ fn main(rt: LibcRuntime) -> io::Result<()> {
     println!(rt, "The batch reactor: idle is step 0, waiting is input 0.")?;
     let chart = entered(&rt, 0)?;
     session_on(&rt, &chart, HEAT as usize)?;
-    println!(rt, "The same with one wrong lead: after cleaning, the empty vessel is heated.")?;
+    println!(
+        rt,
+        "The same with one wrong lead: after cleaning, the empty vessel is heated."
+    )?;
     let wrong = entered(&rt, HEAT_EMPTY)?;
     session_on(&rt, &wrong, CLEAN as usize)?;
     let run = [GO_ON; 6];

@@ -7,6 +7,7 @@ use systems::outcome::Outcome;
 
 // The most steps and inputs of a chart, those it begins with included.
 pub(crate) const MOST_STEPS: usize = 64;
+
 pub(crate) const MOST_INPUTS: usize = 8;
 
 // One step: whether it must never be entered, and the step to which each input leads from it.

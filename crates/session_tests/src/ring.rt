@@ -36,11 +36,7 @@ pub impl System for Ring as RingSystem {
         if !self.is_legal(state, choice) {
             return *state;
         }
-        if *state < self.last {
-            *state + 1
-        } else {
-            0
-        }
+        if *state < self.last { *state + 1 } else { 0 }
     }
 
     fn same(&self, one: &u32, other: &u32) -> bool {

@@ -1,7 +1,6 @@
 // Tests of charts, sessions and judging at their limits.
 #[cfg(test)]
 mod chart_tests;
-pub mod fixing;
 pub mod ring;
 #[cfg(test)]
 mod session_tests;

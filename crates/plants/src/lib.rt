@@ -1,0 +1,9 @@
+// Plants: tasks on resources under a scheduling policy, one tick at a time.
+mod bits;
+pub mod draft;
+mod entries;
+pub mod layout;
+pub mod plant;
+pub mod state;
+mod states;
+mod tick;

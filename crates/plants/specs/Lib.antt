@@ -6,3 +6,6 @@ pub mod Entries
 pub mod Records
 pub mod Tick
 pub mod Meanings
+pub mod Rules
+pub mod Chains
+pub mod Schedules

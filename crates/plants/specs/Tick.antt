@@ -115,10 +115,10 @@ module _ (order : Order) (l : Layout) where
 abbrev pub finish-in : Task → Bool → ℕ → Bool → Bool
 finish-in t runs run b = cond b (runs && leb (t .best) run) (not (runs && eqb run (t .worst)))
 
--- the finish bit b of task i obeys, where the records after rule 2 are rs
-abbrev pub finishes-well : Order → Layout → List Record → ℕ → Bool → Bool
-finishes-well order l rs i b =
-    finish-in (task-at l i) (task-runs order l rs i) (grown-by (task-runs order l rs i) (at rs i) .run) b
+-- the finish bit of task i obeys the rule, where rs are the records after rule 2
+unfoldable pub finish-obeys : Order → Layout → ℕ → List Record → ℕ → Bool
+finish-obeys order l c rs i =
+    finish-in (task-at l i) (task-runs order l rs i) (grown-by (task-runs order l rs i) (at rs i) .run) (bit c (l .count + i))
 
 abbrev pub after-finishes : Layout → ℕ → List Record → List Record
 after-finishes l c rs = each (l .count) (λ i r. cond (bit c (l .count + i)) (finished r) r) rs
@@ -130,15 +130,11 @@ abbrev pub claiming : Layout → ℕ → List Record → List Record
 claiming l c rs = after-readying l (after-releases l c rs)
 
 module _ (order : Order) (l : Layout) (c : ℕ) (rs : List Record) where
-  -- the finish bit of task i obeys the rule
-  unfoldable pub finish-obeys : ℕ → Bool
-  finish-obeys i = finishes-well order l (claiming l c rs) i (bit c (l .count + i))
-
   -- at a state that fits and is not bad, a choice below the count is legal exactly when every bit obeys
   abbrev pub choice-legal : Bool
   choice-legal =
       state-fits l rs && not (state-bad l rs) && ltb c (4 ^ (l .count)) && all-below (release-obeys l c rs) (l .count)
-      && all-below finish-obeys (l .count)
+      && all-below (finish-obeys order l c (claiming l c rs)) (l .count)
 
   abbrev pub ticked : List Record
   ticked = after-finishes l c (after-growth order l (claiming l c rs))

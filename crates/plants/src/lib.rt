@@ -4,6 +4,7 @@ pub mod draft;
 mod entries;
 pub mod layout;
 pub mod plant;
+pub mod schedules;
 pub mod state;
 mod states;
 mod tick;

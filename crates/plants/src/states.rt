@@ -26,27 +26,23 @@ pub(crate) fn first() -> PlantState
     }
 }
 
-fn fits_task(task: &Task, record: &Record) -> bool
-    ensures { λ r. ⌜ r ≡ fits-task (now (task .entry)) (now (record .entry)) ⌝ }
+fn fits_task(task: &Task, r: &Record) -> bool
+    ensures { λ b. ⌜ b ≡ fits-task (now (task .entry)) (now (r .entry)) ⌝ }
 {
-    let idle = record.run == 0 && record.waited == 0;
-    match record.phase {
-        Phase::Before => record.since <= task.offset && idle,
-        Phase::Done => record.since >= 1 && record.since <= task.greatest && idle,
-        Phase::Held => record.since <= task.deadline && idle,
-        Phase::Ready => {
-            record.since <= task.deadline
-                && record.run < task.worst
-                && record.waited <= record.since
-        }
+    let idle = r.run == 0 && r.waited == 0;
+    match r.phase {
+        Phase::Before => r.since <= task.offset && idle,
+        Phase::Done => r.since >= 1 && r.since <= task.greatest && idle,
+        Phase::Held => r.since <= task.deadline && idle,
+        Phase::Ready => { r.since <= task.deadline && r.run < task.worst && r.waited <= r.since }
     }
 }
 
-fn is_blank(record: &Record) -> bool
-    ensures { λ r. ⌜ r ≡ is-blank (now (record .entry)) ⌝ }
+fn is_blank(r: &Record) -> bool
+    ensures { λ b. ⌜ b ≡ is-blank (now (r .entry)) ⌝ }
 {
-    match record.phase {
-        Phase::Before => record.since == 0 && record.run == 0 && record.waited == 0,
+    match r.phase {
+        Phase::Before => r.since == 0 && r.run == 0 && r.waited == 0,
         _ => false,
     }
 }
@@ -75,10 +71,10 @@ pub(crate) fn fits(layout: &Layout, state: &PlantState) -> bool
 }
 
 // A held or ready task has come to its deadline.
-fn is_late(task: &Task, record: &Record) -> bool
-    ensures { λ r. ⌜ r ≡ is-late (now (task .entry)) (now (record .entry)) ⌝ }
+fn is_late(task: &Task, r: &Record) -> bool
+    ensures { λ b. ⌜ b ≡ is-late (now (task .entry)) (now (r .entry)) ⌝ }
 {
-    (record.phase.is_held() || record.phase.is_ready()) && record.since == task.deadline
+    (r.phase.is_held() || r.phase.is_ready()) && r.since == task.deadline
 }
 
 pub(crate) fn is_bad(layout: &Layout, state: &PlantState) -> bool

@@ -3,11 +3,10 @@ ghost use mathlib.Core.Path.{_≡_};
 ghost use mathlib.Core.Bool.{true};
 ghost use Prim.Native.Nat.{ℕ, _<_, _≤_, _+_, _^_};
 ghost use Rattle.plants.specs.Limits.{most-tasks, most-resources};
-ghost use Rattle.plants.specs.Bits.{bit};
 ghost use Rattle.plants.specs.Below.{all-below};
 ghost use Rattle.plants.specs.Layouts.{task-at, valid as layout-valid};
 ghost use Rattle.plants.specs.Records.{at, Low};
-ghost use Rattle.plants.specs.Tick.{release-in, release-obeys, after-releases, all-met, comes-ready, after-readying, claim-of, rivals, ahead-of, task-runs, after-growth, finish-in, finishes-well, finish-obeys, after-finishes, state-fits, claiming, choice-legal, next-records};
+ghost use Rattle.plants.specs.Tick.{release-in, release-obeys, after-releases, met-at, all-met, comes-ready, after-readying, claim-of, rivals, ahead-of, task-runs, after-growth, finish-in, finish-obeys, after-finishes, claiming, choice-legal, next-records};
 use crate::bits::has_bit;
 use crate::layout::Layout;
 use crate::layout::MOST_TASKS;
@@ -29,20 +28,28 @@ pub(crate) fn choices(layout: &Layout) -> u32
 }
 
 // Rule 1: whether a task may be released, or need not be.
-fn may(task: &Task, record: &Record, released: bool) -> bool
-    ensures { λ r. ⌜ r ≡ release-in (now (task .entry)) (now (record .entry) .phase) (now (record .entry) .since) released ⌝ }
+fn may_release(task: &Task, r: &Record, released: bool) -> bool
+    ensures { λ b. ⌜ b ≡ release-in (now (task .entry)) (now (r .entry) .phase) (now (r .entry) .since) released ⌝ }
 {
-    match record.phase {
-        Phase::Before => released == (record.since == task.offset),
+    match r.phase {
+        Phase::Before => released == (r.since == task.offset),
         Phase::Done => {
             if released {
-                record.since >= task.least
+                r.since >= task.least
             } else {
-                record.since != task.greatest
+                r.since != task.greatest
             }
         }
         _ => !released,
     }
+}
+
+// Whether the release bit of task i obeys.
+fn release_obeys(layout: &Layout, state: &PlantState, choice: u32, i: usize) -> bool
+    requires { ⌜ i < most-tasks ⌝ }
+    ensures { λ r. ⌜ r ≡ release-obeys (now (layout .entry)) choice (now (state .entry) .records) i ⌝ }
+{
+    may_release(&layout.tasks[i], &state.records[i], has_bit(choice, i))
 }
 
 // Whether every release bit obeys.
@@ -51,7 +58,7 @@ fn releases_obey(layout: &Layout, state: &PlantState, choice: u32) -> bool
     ensures { λ r. ⌜ r ≡ all-below (release-obeys (now (layout .entry)) choice (now (state .entry) .records)) (now (layout .entry) .count) ⌝ }
 {
     for i in 0..layout.count {
-        if !may(&layout.tasks[i], &state.records[i], has_bit(choice, i)) {
+        if !release_obeys(layout, state, choice, i) {
             return false;
         }
     }
@@ -71,12 +78,20 @@ fn after_releases(layout: &Layout, state: PlantState, choice: u32) -> PlantState
     out
 }
 
+// Whether task j is done, if it is needed.
+fn is_met(needs: u32, state: &PlantState, j: usize) -> bool
+    requires { ⌜ j < most-tasks ⌝ }
+    ensures { λ r. ⌜ r ≡ met-at needs (now (state .entry) .records) j ⌝ }
+{
+    !has_bit(needs, j) || state.records[j].phase.is_done()
+}
+
 // Whether every needed task is done.
 fn all_met(needs: u32, state: &PlantState) -> bool
     ensures { λ r. ⌜ r ≡ all-met needs (now (state .entry) .records) ⌝ }
 {
     for j in 0..MOST_TASKS {
-        if has_bit(needs, j) && !state.records[j].phase.is_done() {
+        if !is_met(needs, state, j) {
             return false;
         }
     }
@@ -192,38 +207,41 @@ fn may_finish(task: &Task, running: bool, run: u32, finished: bool) -> bool
     }
 }
 
-// Whether the finish bit of task i obeys, where the tasks claim their resources as in `claims`.
+// Whether the finish bit of task i obeys, where `state` is the one after rule 2.
 fn finish_obeys<P: Policy>(
     policy: &P,
     layout: &Layout,
-    claims: &PlantState,
-    finished: bool,
+    state: &PlantState,
+    choice: u32,
     i: usize,
 ) -> bool
     requires few { ⌜ now layout .count ≤ most-tasks ⌝ }
     requires within { ⌜ i < most-tasks ⌝ }
     requires placed { ⌜ task-at (now layout) i .resource < most-resources ⌝ }
-    requires low { ⌜ Low (at (now claims .records) i) ⌝ }
-    ensures { λ r. ⌜ r ≡ finishes-well (order (now (policy .entry))) (now (layout .entry)) (now (claims .entry) .records) i finished ⌝ }
+    requires low { ⌜ Low (at (now state .records) i) ⌝ }
+    ensures { λ r. ⌜ r ≡ finish-obeys (order (now (policy .entry))) (now (layout .entry)) choice (now (state .entry) .records) i ⌝ }
 {
-    let running = runs(policy, layout, claims, i);
-    let mut run = claims.records[i].run;
+    let running = runs(policy, layout, state, i);
+    let mut run = state.records[i].run;
     if running {
         run += 1;
     }
-    may_finish(&layout.tasks[i], running, run, finished)
+    may_finish(
+        &layout.tasks[i],
+        running,
+        run,
+        has_bit(choice, layout.count + i),
+    )
 }
 
-// Whether every finish bit obeys, at a state that fits.
-fn finishes_obey<P: Policy>(policy: &P, layout: &Layout, state: PlantState, choice: u32) -> bool
+// Whether every finish bit obeys, where `state` is the one after rule 2.
+fn finishes_obey<P: Policy>(policy: &P, layout: &Layout, state: &PlantState, choice: u32) -> bool
     requires valid { ⌜ layout-valid (now layout) ≡ true ⌝ }
-    requires fit { ⌜ state-fits (now layout) (state .records) ≡ true ⌝ }
-    ensures { λ r. ⌜ r ≡ all-below (finish-obeys (order (now (policy .entry))) (now (layout .entry)) choice (state .records)) (now (layout .entry) .count) ⌝ }
+    requires low { ⌜ ((k : ℕ) → k < now layout .count → Low (at (now state .records) k)) ⌝ }
+    ensures { λ r. ⌜ r ≡ all-below (finish-obeys (order (now (policy .entry))) (now (layout .entry)) choice (now (state .entry) .records)) (now (layout .entry) .count) ⌝ }
 {
-    let claims = claiming(layout, state, choice);
     for i in 0..layout.count {
-        let finished = has_bit(choice, layout.count + i);
-        if !finish_obeys(policy, layout, &claims, finished, i) {
+        if !finish_obeys(policy, layout, state, choice, i) {
             return false;
         }
     }
@@ -244,7 +262,12 @@ fn after_finishes(layout: &Layout, state: PlantState, choice: u32) -> PlantState
 }
 
 // A choice whose release bits break the rules is turned away first, before anything of the tick is computed.
-pub(crate) fn is_legal<P: Policy>(policy: &P, layout: &Layout, state: &PlantState, choice: u32) -> bool
+pub(crate) fn is_legal<P: Policy>(
+    policy: &P,
+    layout: &Layout,
+    state: &PlantState,
+    choice: u32,
+) -> bool
     requires { ⌜ layout-valid (now layout) ≡ true ⌝ }
     ensures { λ r. ⌜ r ≡ choice-legal (order (now (policy .entry))) (now (layout .entry)) choice (now (state .entry) .records) ⌝ }
 {
@@ -254,10 +277,15 @@ pub(crate) fn is_legal<P: Policy>(policy: &P, layout: &Layout, state: &PlantStat
     if !fits(layout, state) || is_bad(layout, state) {
         return false;
     }
-    finishes_obey(policy, layout, *state, choice)
+    finishes_obey(policy, layout, &claiming(layout, *state, choice), choice)
 }
 
-pub(crate) fn next<P: Policy>(policy: &P, layout: &Layout, state: PlantState, choice: u32) -> PlantState
+pub(crate) fn next<P: Policy>(
+    policy: &P,
+    layout: &Layout,
+    state: PlantState,
+    choice: u32,
+) -> PlantState
     requires { ⌜ layout-valid (now layout) ≡ true ⌝ }
     ensures { λ r. ⌜ r .records ≡ next-records (order (now (policy .entry))) (now (layout .entry)) choice (state .records) ⌝ }
 {

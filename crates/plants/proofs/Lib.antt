@@ -3,3 +3,7 @@ pub mod Entered
 pub mod Each
 pub mod Same
 pub mod Ticks
+pub mod NextFits
+pub mod Choice
+pub mod GoesOn
+pub mod PlantLaws

@@ -7,3 +7,5 @@ pub mod NextFits
 pub mod Choice
 pub mod GoesOn
 pub mod PlantLaws
+pub mod Decided
+pub mod Agreement

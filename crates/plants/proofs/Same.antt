@@ -27,7 +27,7 @@ phase-back Done = refl
 phase-back Held = refl
 phase-back Ready = refl
 
-record-same : (p q : Phase) (a b c d e f : ℕ) → p ≡ q → a ≡ b → c ≡ d → e ≡ f
+pub record-same : (p q : Phase) (a b c d e f : ℕ) → p ≡ q → a ≡ b → c ≡ d → e ≡ f
     → _≡_ {A = Record} (record { phase = p; since = a; run = c; waited = e }) (record { phase = q; since = b; run = d; waited = f })
 record-same p q a b c d e f h i j k = cc
 

@@ -7,5 +7,6 @@ pub mod Records
 pub mod Tick
 pub mod Meanings
 pub mod Rules
+pub mod Replies
 pub mod Chains
 pub mod Schedules

@@ -1,7 +1,7 @@
 -- One tick as a relation: what becomes of each task, in the rules' own words.
 use Prim.Native.Nat.{ℕ, _+_, _<_, _≤_, _^_}
 use mathlib.Core.Path.{_≡_}
-use mathlib.Core.Bool.{Bool, true, false}
+use mathlib.Core.Bool.{true, false}
 use mathlib.Core.Logic.{_⊎_}
 use lib.ListN.{length}
 use Rattle.std.specs.declared.option.Option.{Option}
@@ -117,11 +117,6 @@ pub record Tick (order : Order) (l : Layout) (c : ℕ) (s s′ : PlantState) : T
   pub rule-2 : Readies l held ready
   pub rule-4 : Grows order l ready grown
   pub rule-5 : Finishes order l c ready grown s′
-
--- a choice is legal, and leads to a state, exactly when the rules have it lead there in one tick
-pub record By-rules (order : Order) (l : Layout) (c : ℕ) (s : PlantState) (legal : Bool) (next : PlantState) : Type 0 where
-  pub legal-ticks : legal ≡ true → Tick order l c s next
-  pub tick-legal : (s′ : PlantState) → Tick order l c s s′ → (legal ≡ true) × (s′ ≡ next)
 
 -- the state after rule 2
 abbrev pub claiming-state : Layout → ℕ → PlantState → PlantState

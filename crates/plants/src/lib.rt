@@ -7,4 +7,5 @@ pub mod plant;
 pub mod schedules;
 pub mod state;
 mod states;
+pub mod system;
 mod tick;

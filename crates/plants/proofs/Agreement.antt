@@ -39,9 +39,6 @@ by-flag false d x y z p q = q (λ h. both-ways false refl (d .1 h))
 -- From a legal choice to the rules
 
 module _ (order : Order) (l : Layout) (c : ℕ) (s : PlantState) (v : Valid l) (h : choice-legal order l c (s .records) ≡ true) where
-  rs : List Record
-  rs = s .records
-
   ok : Legal order l c (s .records)
   ok = legal-parts order l c (s .records) h
 

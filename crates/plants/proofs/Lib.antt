@@ -9,3 +9,6 @@ pub mod GoesOn
 pub mod PlantLaws
 pub mod Decided
 pub mod Agreement
+pub mod Firsts
+pub mod OneRuns
+pub mod Chained

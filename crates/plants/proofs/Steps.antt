@@ -1,5 +1,5 @@
 -- The steps of a loop that tests the numbers below another in turn, and what such tests tell.
-use mathlib.Core.Path.{_≡_, refl, ap, sym, _∙_}
+use mathlib.Core.Path.{_≡_, refl, ap, sym, subst, _∙_}
 use mathlib.Core.Bool.{Bool, true, false, cond, _&&_, _||_}
 use mathlib.Core.Logic.{⊎-elim}
 use Prim.Native.Nat.{ℕ, zero, suc, _+_, _<_}
@@ -7,9 +7,11 @@ use native.Mathlib.Numerals.{add-one}
 use native.Mathlib.Omega.{arith}
 use lib.Dec.{ltb}
 use Rattle.std.specs.Orderings.{Decides}
+use Rattle.std.specs.declared.option.Option.{Option}
+use Rattle.std.specs.declared.option.Option.the-variants.{Some, None}
 use Rattle.std.proofs.shelf.Tests.{and-from, or-from, or-left, or-right, and-left, and-right, cases-eq, cond-true, cond-false, lt-ltb, le-ltb}
 use Rattle.std.proofs.shelf.Ways.{decides-below-and, decides-below-or}
-use Rattle.plants.specs.Below.{all-below, any-below, lowest}
+use Rattle.plants.specs.Below.{all-below, any-below, lowest, Finds}
 
 module _ (p : ℕ → Bool) where
   -- a test at every number below n, and at some, as a statement
@@ -59,3 +61,16 @@ module _ (p : ℕ → Bool) where
       ap (λ k. cond (ltb k n) k (cond (p n) n (suc n))) found ∙ cond-true _ _ _ (lt-ltb i n (omega arith)))
       (cases-eq i n)
   lowest-stops zero i lt h t = absurd (omega arith)
+
+  -- the number that was found, or none
+  pub finds-some : (n i : ℕ) → i < n → p i ≡ true → Finds p n (Some i)
+  finds-some n i lt t = record {
+    found = λ k e. let same : i ≡ k = cc in subst (λ j. (j < n) × (p j ≡ true)) same (lt, t);
+    none = λ e. let z : _≡_ {A = ℕ} 0 1 = cc in absurd (omega arith);
+  }
+
+  pub finds-none : (n : ℕ) → ((k : ℕ) → k < n → p k ≡ false) → Finds p n None
+  finds-none n h = record {
+    found = λ k e. let z : _≡_ {A = ℕ} 0 1 = cc in absurd (omega arith);
+    none = λ e. h;
+  }

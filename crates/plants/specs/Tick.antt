@@ -105,6 +105,10 @@ module _ (order : Order) (l : Layout) where
   unfoldable pub task-runs : List Record → ℕ → Bool
   task-runs rs i = is-ready (at rs i .phase) && all-below (ahead-of rs i) (l .count)
 
+  -- task i is on the resource and runs
+  abbrev pub runs-on : List Record → ℕ → ℕ → Bool
+  runs-on rs resource i = eqb (task-at l i .resource) resource && task-runs rs i
+
   -- Rule 4: growth
   abbrev pub after-growth : List Record → List Record
   after-growth rs = each (l .count) (λ i r. grown-by (task-runs rs i) r) rs

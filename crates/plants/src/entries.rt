@@ -1,12 +1,14 @@
 // The calls of a draft: what an entry comes to, what it leaves, and fixing.
 ghost use mathlib.Core.Path.{_≡_};
 ghost use mathlib.Core.Bool.{true};
-ghost use Prim.Native.Nat.{_<_, _≤_};
+ghost use mathlib.Core.List.{List};
+ghost use Prim.Native.Nat.{ℕ, _<_, _≤_};
 ghost use Rattle.systems.specs.Outcomes.{answer-of};
 ghost use Rattle.policies.specs.Classes.{classes};
 ghost use Rattle.plants.specs.Limits.{most-tasks, most-resources};
 ghost use Rattle.plants.specs.Below.{lowest};
 ghost use Rattle.plants.specs.Layouts.{nothing, valid as layout-valid, is-within, unlike, entered, with-task, with-resource};
+ghost use Rattle.plants.specs.Chains.{Runs-chain};
 ghost use Rattle.plants.specs.Entries.{outside-field, resource-comes-to, task-comes-to, after-resource, after-task};
 use crate::bits::has_bit;
 use crate::draft::DraftPlant;
@@ -61,14 +63,22 @@ impl DraftPlant {
         outcome.answer()
     }
 
-    // Moves the draft into a plant that holds exactly its entries.
+    // Moves the draft into a plant that holds exactly its entries, and whose runs are the chains of its ticks.
     pub fn fix<P: Policy>(self, policy: P) -> Plant<P>
         ensures layout { λ r. ⌜ r .layout ≡ self .layout ⌝ }
         ensures policy { λ r. ⌜ r .policy ≡ policy ⌝ }
+        ensures runs { λ r. ⌜ ((choices : List ℕ) → Runs-chain (order (r .policy)) (r .layout) choices) ⌝ }
     {
-        let DraftPlant { layout } = self;
-        Plant { layout, policy }
+        fixed(self, policy)
     }
+}
+
+fn fixed<P>(draft: DraftPlant, policy: P) -> Plant<P>
+    ensures layout { λ r. ⌜ r .layout ≡ draft .layout ⌝ }
+    ensures policy { λ r. ⌜ r .policy ≡ policy ⌝ }
+{
+    let DraftPlant { layout } = draft;
+    Plant { layout, policy }
 }
 
 fn empty() -> Layout

@@ -4,6 +4,7 @@ pub mod draft;
 mod entries;
 pub mod layout;
 pub mod plant;
+mod running;
 pub mod schedules;
 pub mod state;
 mod states;

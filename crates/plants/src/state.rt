@@ -31,7 +31,7 @@ impl Phase {
         }
     }
 
-    pub fn is_done(self) -> bool
+    pub(crate) fn is_done(self) -> bool
         ensures { λ r. ⌜ r ≡ is-done self ⌝ }
     {
         match self {
@@ -40,7 +40,7 @@ impl Phase {
         }
     }
 
-    pub fn is_held(self) -> bool
+    pub(crate) fn is_held(self) -> bool
         ensures { λ r. ⌜ r ≡ is-held self ⌝ }
     {
         match self {
@@ -49,7 +49,7 @@ impl Phase {
         }
     }
 
-    pub fn is_ready(self) -> bool
+    pub(crate) fn is_ready(self) -> bool
         ensures { λ r. ⌜ r ≡ is-ready self ⌝ }
     {
         match self {

@@ -6,7 +6,7 @@ ghost use Rattle.plants.specs.Limits.{most-tasks, most-resources};
 ghost use Rattle.plants.specs.Below.{all-below};
 ghost use Rattle.plants.specs.Layouts.{task-at, valid as layout-valid};
 ghost use Rattle.plants.specs.Records.{at, Low};
-ghost use Rattle.plants.specs.Tick.{release-in, release-obeys, after-releases, met-at, all-met, comes-ready, after-readying, claim-of, rivals, ahead-of, task-runs, after-growth, finish-in, finish-obeys, after-finishes, claiming, choice-legal, next-records};
+ghost use Rattle.plants.specs.Tick.{release-in, release-obeys, after-releases, met-at, all-met, comes-ready, after-readying, claim-of, rivals, goes-before, ahead-of, task-runs, after-growth, finish-in, finish-obeys, after-finishes, claiming, choice-legal, next-records};
 use crate::bits::has_bit;
 use crate::layout::Layout;
 use crate::layout::MOST_TASKS;
@@ -152,18 +152,29 @@ fn are_rivals(layout: &Layout, state: &PlantState, i: usize, j: usize) -> bool
         && layout.tasks[i].resource == layout.tasks[j].resource
 }
 
+// Whether task i goes before task j by the policy of its resource.
+fn goes_before<P: Policy>(
+    policy: &P,
+    layout: &Layout,
+    state: &PlantState,
+    i: usize,
+    j: usize,
+) -> bool
+    requires { ⌜ i < most-tasks ⌝ ∗ ⌜ j < most-tasks ⌝ ∗ ⌜ task-at (now layout) i .resource < most-resources ⌝ }
+    ensures { λ r. ⌜ r ≡ goes-before (order (now (policy .entry))) (now (layout .entry)) (now (state .entry) .records) i j ⌝ }
+{
+    let resource = layout.resources[layout.tasks[i].resource as usize];
+    let mine = claim_of(layout, state, i);
+    let theirs = claim_of(layout, state, j);
+    policy.before(resource.policy, resource.preempt, &mine, &theirs)
+}
+
 // Whether task i goes before task j, or j is no rival.
 fn is_ahead<P: Policy>(policy: &P, layout: &Layout, state: &PlantState, i: usize, j: usize) -> bool
     requires { ⌜ i < most-tasks ⌝ ∗ ⌜ j < most-tasks ⌝ ∗ ⌜ task-at (now layout) i .resource < most-resources ⌝ }
     ensures { λ r. ⌜ r ≡ ahead-of (order (now (policy .entry))) (now (layout .entry)) (now (state .entry) .records) i j ⌝ }
 {
-    if !are_rivals(layout, state, i, j) {
-        return true;
-    }
-    let resource = layout.resources[layout.tasks[i].resource as usize];
-    let mine = claim_of(layout, state, i);
-    let theirs = claim_of(layout, state, j);
-    policy.before(resource.policy, resource.preempt, &mine, &theirs)
+    !are_rivals(layout, state, i, j) || goes_before(policy, layout, state, i, j)
 }
 
 // Rule 3: whether task i runs.

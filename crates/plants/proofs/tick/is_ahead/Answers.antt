@@ -7,6 +7,6 @@ pub returns-then-not-are-rivals : need.returns-then-not-are-rivals
 unfolding ahead-of
 returns-then-not-are-rivals g c = search needs
 
-pub returns : need.returns
+pub returns-else-not-are-rivals : need.returns-else-not-are-rivals
 unfolding ahead-of
-returns g c = search needs
+returns-else-not-are-rivals g c = search needs

@@ -1,27 +1,23 @@
 -- A choice is legal, and leads to a state, exactly when the rules have it lead there in one tick.
 use mathlib.Core.Path.{_≡_, refl, ap, sym, subst, _∙_}
-use mathlib.Core.Bool.{Bool, true, false, not, cond, _&&_}
+use mathlib.Core.Bool.{Bool, true, false, cond}
 use mathlib.Core.List.{List}
-use Prim.Native.Nat.{ℕ, _+_, _<_, _^_}
-use lib.Dec.{ltb}
+use Prim.Native.Nat.{ℕ, _+_, _<_}
 use lib.ListN.{length}
 use Rattle.std.specs.Orderings.{Decides}
-use Rattle.std.proofs.shelf.Ways.{decides-at}
 use Rattle.std.proofs.shelf.Tests.{and-from, lt-ltb, ltb-true, both-ways, not-from-false, cond-true, cond-false}
-use Rattle.plants.specs.Limits.{most-tasks}
 use Rattle.plants.specs.Bits.{bit}
-use Rattle.plants.specs.Below.{all-below}
 use Rattle.plants.specs.Layouts.{task-at}
 use Rattle.plants.specs.Records.{at, released, readied, grown-by, finished}
-use Rattle.plants.specs.Tick.{Order, state-fits, state-bad, release-in, release-obeys, finish-in, finish-obeys, comes-ready, task-runs, claiming, after-releases, after-readying, after-growth, after-finishes, ticked, choice-legal, next-records}
-use Rattle.plants.specs.Rules.{record-at, Others-stay, Releases, Readies, Runs, Grows, Finishes, Tick, claiming-state}
+use Rattle.plants.specs.Tick.{Order, state-bad, release-in, release-obeys, finish-in, finish-obeys, comes-ready, task-runs, claiming, after-releases, after-readying, after-growth, after-finishes, ticked, choice-legal, next-records}
+use Rattle.plants.specs.Rules.{record-at, Releases, Readies, Runs, Grows, Finishes, Tick, claiming-state}
 use Rattle.plants.specs.Replies.{By-rules}
 use Rattle.plants.specs.Meanings.{plant-meaning}
 use Rattle.plants.specs.declared.layout.Layout.{Layout}
 use Rattle.plants.specs.declared.state.Record.{Record}
 use Rattle.plants.specs.declared.state.PlantState.{PlantState}
 use Rattle.plants.proofs.Entered.{Valid}
-use Rattle.plants.proofs.Each.{Made, made-each}
+use Rattle.plants.proofs.Each.{made-each}
 use Rattle.plants.proofs.Steps.{all-from}
 use Rattle.plants.proofs.Ticks.{Legal, legal-parts, released-made, readied-made, grown-made, finished-made}
 use Rattle.plants.proofs.PlantLaws.{of-records}

@@ -1,6 +1,5 @@
 -- A list of choices is a run exactly when its states chain by ticks from the first.
-use mathlib.Core.Path.{_≡_, refl, ap, sym, subst, _∙_}
-use mathlib.Core.Bool.{true}
+use mathlib.Core.Path.{_≡_, refl, ap, subst, _∙_}
 use mathlib.Core.List.{List, [], _∷_}
 use Prim.Native.Nat.{ℕ}
 use Rattle.systems.specs.Systems.{Legal, led}

@@ -5,17 +5,16 @@ use mathlib.Core.List.{List}
 use mathlib.Core.Logic.{_⊎_, inl, inr, ⊎-elim}
 use Prim.Native.Nat.{ℕ, _+_, _<_, _≤_}
 use native.Mathlib.Omega.{arith}
-use lib.Dec.{eqb, ltb, leb}
+use lib.Dec.{eqb}
 use Rattle.std.specs.Orderings.{Decides}
-use Rattle.std.proofs.shelf.Ways.{tells, decides-and, decides-or, decides-eqb, decides-like, not-from-decides}
+use Rattle.std.proofs.shelf.Ways.{tells, decides-and, decides-or, decides-eqb}
 use Rattle.std.proofs.shelf.Tests.{and-parts, and-from, or-left, or-right, eqb-true, eqb-false, eq-eqb, ne-eqb, leb-true, le-leb, cases-bool, cases-lt, both-ways, not-from-false, not-from-true, not-true, false≢true, true≢false, cond-true, cond-false, lt-ltb, le-ltb}
 use Rattle.plants.specs.Limits.{most-tasks}
 use Rattle.plants.specs.Bits.{bit}
-use Rattle.plants.specs.Below.{all-below}
 use Rattle.plants.specs.Layouts.{task-at}
 use Rattle.plants.specs.Records.{at, blank, is-before, is-done, is-held, is-ready, grown-by}
-use Rattle.plants.specs.Tick.{Order, fits-in, fits-task, fits-at, is-blank, state-fits, is-late, late-at, state-bad, release-in, finish-in, met-at, all-met, comes-ready, rivals, goes-before, ahead-of, task-runs}
-use Rattle.plants.specs.Rules.{record-at, Fits-task, Fits, Late, Bad, May-release, Must-release, Comes-ready, Runs, Grown}
+use Rattle.plants.specs.Tick.{Order, fits-in, fits-at, is-blank, state-fits, late-at, state-bad, release-in, finish-in, met-at, comes-ready, rivals, goes-before, ahead-of, task-runs}
+use Rattle.plants.specs.Rules.{record-at, Fits-task, Fits, Late, Bad, Comes-ready, Runs, Grown}
 use Rattle.plants.specs.declared.layout.Task.{Task}
 use Rattle.plants.specs.declared.layout.Layout.{Layout}
 use Rattle.plants.specs.declared.state.Record.{Record}

@@ -1,6 +1,6 @@
 -- A loop that makes each task's record anew.
 use mathlib.Core.Path.{_≡_, refl, ap, sym, _∙_}
-use mathlib.Core.Bool.{Bool, true, false, cond}
+use mathlib.Core.Bool.{cond}
 use mathlib.Core.Logic.{_≢_, ⊎-elim}
 use mathlib.Core.List.{List}
 use Prim.Native.Nat.{ℕ, _+_, _<_, _≤_}
@@ -27,33 +27,6 @@ pub record Made (n : ℕ) (f : ℕ → Record → Record) (rs xs : List Record) 
   pub others : (k : ℕ) → k < most-tasks → n ≤ k → at xs k ≡ at rs k
 
 module _ (f : ℕ → Record → Record) (rs : List Record) where
-  pub upto-none : length rs ≡ most-tasks → Upto f rs 0 rs
-  upto-none h = record { long = h; below = λ k lt. absurd (omega arith); rest = λ k le. refl }
-
-  pub upto-set : (i : ℕ) (xs ys : List Record) (v : Record) → i < most-tasks → Upto f rs i xs → ys ≡ set xs i v → v ≡ f i (at xs i) → Upto f rs (i + 1) ys
-  upto-set i xs ys v lt u e d =
-      let l : i < length xs = omega (arith, u .long) in
-      record {
-        long = ap length e ∙ length-set xs i v ∙ u .long;
-        below = λ k h.
-            ⊎-elim
-            (λ (q : k ≡ i). rw (q, e) (getD-set-same xs i v blank l ∙ d ∙ ap (f i) (u .rest i (omega arith))))
-            (λ (ne : k ≡ i → ⊥). rw e (getD-set-other xs i k v blank ne ∙ u .below k (omega arith)))
-            (cases-eq k i);
-        rest = λ k h. let ne : k ≢ i = omega arith in rw e (getD-set-other xs i k v blank ne ∙ u .rest k (omega arith));
-      }
-
-  pub upto-skip : (i : ℕ) (xs : List Record) → Upto f rs i xs → at xs i ≡ f i (at xs i) → Upto f rs (i + 1) xs
-  upto-skip i xs u d = record {
-    long = u .long;
-    below = λ k h.
-        ⊎-elim
-        (λ (q : k ≡ i). rw q (d ∙ ap (f i) (u .rest i (omega arith))))
-        (λ (ne : k ≡ i → ⊥). u .below k (omega arith))
-        (cases-eq k i);
-    rest = λ k h. u .rest k (omega arith);
-  }
-
   -- records that are made so are those of `each`
   pub made-each : (n : ℕ) (xs : List Record) → Made n f rs xs → xs ≡ each n f rs
   unfolding each

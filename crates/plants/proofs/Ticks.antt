@@ -1,12 +1,12 @@
 -- The records after each rule of a tick, and the bounds on their numbers.
-use mathlib.Core.Path.{_≡_, refl, ap, sym, subst⁻¹, _∙_}
-use mathlib.Core.Bool.{Bool, true, false, not, cond, _&&_, _||_}
+use mathlib.Core.Path.{_≡_, sym, subst⁻¹, _∙_}
+use mathlib.Core.Bool.{Bool, true, false, not, cond, _&&_}
 use mathlib.Core.List.{List}
 use Prim.Native.Nat.{ℕ, _+_, _<_, _≤_, _^_}
 use native.Mathlib.Omega.{arith}
-use lib.Dec.{eqb, ltb, leb}
+use lib.Dec.{ltb}
 use Rattle.std.proofs.shelf.Ways.{tells}
-use Rattle.std.proofs.shelf.Tests.{and-from, and-parts, cond-true, lt-ltb, ltb-true, not-true}
+use Rattle.std.proofs.shelf.Tests.{and-parts, cond-true, lt-ltb, ltb-true, not-true}
 use Rattle.plants.specs.Limits.{most-resources, most-ticks, most-tasks}
 use Rattle.plants.specs.Bits.{bit}
 use Rattle.plants.specs.Below.{all-below}

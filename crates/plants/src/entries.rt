@@ -1,13 +1,12 @@
 // The calls of a draft: what an entry comes to, what it leaves, and fixing.
 ghost use mathlib.Core.Path.{_≡_};
-ghost use mathlib.Core.Bool.{true};
 ghost use mathlib.Core.List.{List};
 ghost use Prim.Native.Nat.{ℕ, _<_, _≤_};
 ghost use Rattle.systems.specs.Outcomes.{answer-of};
 ghost use Rattle.policies.specs.Classes.{classes};
 ghost use Rattle.plants.specs.Limits.{most-tasks, most-resources};
 ghost use Rattle.plants.specs.Below.{lowest};
-ghost use Rattle.plants.specs.Layouts.{nothing, valid as layout-valid, is-within, unlike, entered, with-task, with-resource};
+ghost use Rattle.plants.specs.Layouts.{nothing, is-within, unlike, entered, with-task, with-resource};
 ghost use Rattle.plants.specs.Chains.{Runs-chain};
 ghost use Rattle.plants.specs.Entries.{outside-field, resource-comes-to, task-comes-to, after-resource, after-task};
 use crate::bits::has_bit;

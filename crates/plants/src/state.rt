@@ -1,8 +1,8 @@
 // A plant's state: a record for each of the tasks that a plant can have.
 ghost use mathlib.Core.Path.{_≡_};
-ghost use Prim.Native.Nat.{_<_, _≤_};
+ghost use Prim.Native.Nat.{_<_};
 ghost use lib.ListN.{set};
-ghost use Rattle.plants.specs.Limits.{most-tasks, most-ticks};
+ghost use Rattle.plants.specs.Limits.{most-tasks};
 ghost use Rattle.plants.specs.Records.{is-done, is-held, is-ready, phase-number, released, readied, grown-by, finished, at, Low};
 use crate::layout::MOST_TASKS;
 

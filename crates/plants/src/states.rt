@@ -3,7 +3,7 @@ ghost use mathlib.Core.Path.{_≡_};
 ghost use Prim.Native.Nat.{_<_, _≤_};
 ghost use Rattle.plants.specs.Limits.{most-tasks};
 ghost use Rattle.plants.specs.Records.{first-state, same-record, same-records};
-ghost use Rattle.plants.specs.Tick.{fits-task, is-blank, fits-at, state-fits, is-late, late-at, state-bad};
+ghost use Rattle.plants.specs.Tick.{fits-task, is-blank, fits-at, state-fits, is-late, state-bad};
 use crate::layout::Layout;
 use crate::layout::MOST_TASKS;
 use crate::layout::Task;

@@ -1,5 +1,4 @@
 -- The site's policy is lawful: each of the orders that it is made of is, and so is the layer over any lawful order.
-use mathlib.Core.Path.{_≡_}
 use mathlib.Core.Bool.{Bool, true, false, cond}
 use Prim.Native.Nat.{ℕ}
 use native.Mathlib.Omega.{arith}

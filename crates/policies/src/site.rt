@@ -1,5 +1,4 @@
 // The site's policy, which reads a resource's two numbers.
-ghost use mathlib.Core.Path.{_≡_};
 ghost use Rattle.policies.specs.Orders.{numbered, site};
 use crate::orders::EarliestDeadline;
 use crate::orders::EarliestDeadlinePolicy;

@@ -1,6 +1,5 @@
 -- The test is computed over the whole list.
 use mathlib.Core.Path.{refl}
-use Rattle.plants.specs.Layouts.{valid-at}
 use Rattle.plants.specs.Records.{each}
 use Rattle.plants.specs.Tick.{fits-at, late-at, release-obeys, met-at, comes-ready, ahead-of, task-runs, finish-obeys}
 use Rattle.plants.specs.Schedules.{all-hold}

@@ -1,5 +1,5 @@
 -- At a state that fits, the records after rule 2 have room to grow.
-use mathlib.Core.Path.{sym, subst⁻¹, _∙_}
+use mathlib.Core.Path.{sym, subst⁻¹}
 use Rattle.plants.specs.Records.{at, Low}
 use Rattle.plants.proofs.Entered.{valid-parts}
 use Rattle.plants.proofs.Ticks.{low-claiming}

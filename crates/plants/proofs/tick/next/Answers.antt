@@ -1,5 +1,5 @@
 -- A legal choice is at a state that fits, whose records after rule 2 have room to grow.
-use mathlib.Core.Path.{sym, subst⁻¹, _∙_}
+use mathlib.Core.Path.{sym, subst⁻¹}
 use Rattle.plants.specs.Records.{at, Low}
 use Rattle.plants.proofs.Entered.{valid-parts}
 use Rattle.plants.proofs.Ticks.{legal-parts, low-claiming}

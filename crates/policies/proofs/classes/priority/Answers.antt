@@ -1,5 +1,5 @@
 -- The listed priority is that of its band, by the table's rule.
-use mathlib.Core.Path.{_≡_, ap, _∙_}
+use mathlib.Core.Path.{_∙_}
 use Rattle.policies.proofs.Tables.{listed-banded}
 use Rattle.policies.proofs.classes.priority.Needs as need
 

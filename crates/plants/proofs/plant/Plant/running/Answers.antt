@@ -3,7 +3,6 @@ use mathlib.Core.Path.{subst}
 use Rattle.plants.specs.Below.{Finds}
 use Rattle.plants.specs.Tick.{runs-on}
 use Rattle.plants.specs.Rules.{claiming-state}
-use Rattle.plants.proofs.Entered.{valid-parts}
 use Rattle.plants.proofs.OneRuns.{names-running}
 use Rattle.plants.proofs.plant.Plant.running.Needs as need
 

@@ -3,12 +3,14 @@ use Prim.Native.Nat.{ℕ}
 use mathlib.Core.Bool.{Bool}
 use lib.Dec.{eqb}
 use Rattle.systems.specs.declared.outcome.Outcome.{Outcome}
-use Rattle.systems.specs.declared.outcome.Outcome.the-variants.{Accepted, FieldOutside, NoRoom, Unfit, Bad, Listed, Full, NoSuchPlace, LeadsToBad, LeadsOutside, FirstNotListed, Unsettled, NotLegal, EndsNotBad}
+use Rattle.systems.specs.declared.outcome.Outcome.the-variants.{Accepted, FieldOutside, NoRoom, NotEntered, GapsUnlike, Unfit, Bad, Listed, Full, NoSuchPlace, LeadsToBad, LeadsOutside, FirstNotListed, Unsettled, NotLegal, EndsNotBad}
 
 abbrev pub answer-of : Outcome → ℕ × ℕ
 answer-of (Accepted value) = (0, value)
 answer-of (FieldOutside field) = (3, field)
 answer-of NoRoom = (4, 0)
+answer-of (NotEntered field) = (5, field)
+answer-of (GapsUnlike task) = (6, task)
 answer-of Unfit = (8, 0)
 answer-of Bad = (9, 0)
 answer-of (Listed place) = (10, place)

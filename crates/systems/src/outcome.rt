@@ -11,6 +11,10 @@ pub enum Outcome {
     FieldOutside(u32),
     // a draft takes no more of what was to be added
     NoRoom,
+    // this field names a resource or a needed task that is not entered
+    NotEntered(u32),
+    // the entry and this needed task, the lowest such, have not one number as all their gaps
+    GapsUnlike(usize),
     // the state is none of the system's
     Unfit,
     // the state is bad
@@ -54,6 +58,8 @@ impl Outcome {
             Outcome::Accepted(value) => (0, value),
             Outcome::FieldOutside(field) => (3, field as usize),
             Outcome::NoRoom => (4, 0),
+            Outcome::NotEntered(field) => (5, field as usize),
+            Outcome::GapsUnlike(task) => (6, task),
             Outcome::Unfit => (8, 0),
             Outcome::Bad => (9, 0),
             Outcome::Listed(place) => (10, place),

@@ -1,0 +1,14 @@
+pub mod Steps
+pub mod Entered
+pub mod Each
+pub mod Same
+pub mod Ticks
+pub mod NextFits
+pub mod Choice
+pub mod GoesOn
+pub mod PlantLaws
+pub mod Decided
+pub mod Agreement
+pub mod Firsts
+pub mod OneRuns
+pub mod Chained

@@ -1,0 +1,12 @@
+pub mod Limits
+pub mod Bits
+pub mod Below
+pub mod Layouts
+pub mod Entries
+pub mod Records
+pub mod Tick
+pub mod Meanings
+pub mod Rules
+pub mod Replies
+pub mod Chains
+pub mod Schedules

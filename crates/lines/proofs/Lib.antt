@@ -1,0 +1,5 @@
+pub mod Columns
+pub mod Buffers
+pub mod Lines
+pub mod Readings
+pub mod Pieces

@@ -1,0 +1,18 @@
+// A line as a value.
+ghost use Prim.Native.Nat.{_≤_};
+ghost use lib.ListN.{length};
+use crate::tag::Tag;
+
+pub mod parts;
+
+// The most numbers that a line has.
+pub(crate) const MOST: usize = 32;
+
+// A tag, and the numbers that stand before the count.
+#[derive(Clone, Copy)]
+pub struct Line {
+    tag: Tag,
+    numbers: [u32; MOST],
+    count: usize,
+    ghost few: { count ≤ length numbers },
+}

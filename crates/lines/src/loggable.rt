@@ -1,0 +1,31 @@
+// Systems whose states can be written as lines.
+ghost use mathlib.Core.Path.{_≡_};
+ghost use mathlib.Core.Bool.{true};
+ghost use mathlib.Core.List.{List};
+ghost use Prim.Native.Nat.{ℕ};
+ghost use lib.ListN.{length};
+ghost use Rattle.std.specs.declared.option.Option.{Option as Maybe};
+ghost use Rattle.systems.specs.Outcomes.{answer-of};
+ghost use Rattle.lines.specs.declared.tag.Tag.the-variants.{Offr};
+ghost use Rattle.lines.specs.Writing.{writing, written};
+ghost use Rattle.lines.specs.Logging.{Numbered, StateLine};
+use systems::system::System;
+
+pub trait Loggable: System {
+    // The numbers of a state's line, and the state of a line's numbers.
+    ghost numbers: { Self → Self·State → List ℕ };
+
+    ghost restored: { Self → List ℕ → Maybe Self·State };
+
+    law numbered: { (x : Self) → Numbered (Self·System .meaning x) (numbers x) (restored x) };
+
+    // Writes a state as a line at the front of the buffer, and answers its length.
+    fn write(&self, state: &Self::State, out: &mut [u8]) -> (u32, usize)
+        ensures answer { λ r. ⌜ r ≡ answer-of (writing Offr (numbers (now (self .entry)) (now (state .entry))) (length (now (out .entry)))) ⌝ }
+        ensures after { λ _. ⌜ now (out .exit) ≡ written Offr (numbers (now (self .entry)) (now (state .entry))) (now (out .entry)) ⌝ }
+        ensures back { λ r. ⌜ (Self·System .meaning (now (self .entry)) .fits (now (state .entry)) ≡ true → r .0 ≡ 0 → StateLine (restored (now (self .entry))) (now (state .entry)) (now (out .exit))) ⌝ };
+
+    // The state that the numbers of a line are.
+    fn state_of(&self, given: &[u32]) -> Option<Self::State>
+        ensures { λ r. ⌜ r ≡ restored (now (self .entry)) (now (given .entry)) ⌝ };
+}

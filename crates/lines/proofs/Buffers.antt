@@ -1,14 +1,17 @@
 -- Bytes written one after another from the front of a buffer, until they spell a line.
 use mathlib.Core.Path.{_≡_, refl, sym, ap, subst, _∙_}
+use mathlib.Core.Bool.{true, cond}
 use mathlib.Core.List.{List, [], _∷_, _++_, append-assoc}
 use Prim.Native.Nat.{ℕ, _+_, _*_, _≤_, _<_}
 use native.Mathlib.Omega.{arith}
+use lib.Dec.{leb}
 use lib.ListN.{length, take, drop, getD, length-append}
 use Rattle.std.proofs.shelf.Lists.{take-at, take-all, take-append-drop, drop-at, drop-drop, append-nil, length-take-le}
 use borrow.Rule.Slice.PartMut.{putMid}
-use Rattle.std.proofs.shelf.Tests.{cond-true, eq-eqb}
+use Rattle.std.proofs.shelf.Tests.{cond-true, eq-eqb, le-leb}
 use Rattle.systems.specs.Outcomes.{answer-of, accepts}
-use Rattle.lines.specs.Spelling.{column, columns, spelling, letters, width, feed, Allowed, Begins}
+use Rattle.systems.specs.declared.outcome.Outcome.the-variants.{Accepted, NumberTooLarge, BufferShort}
+use Rattle.lines.specs.Spelling.{column, columns, small, spelling, letters, tag-length, width, feed, Allowed, Begins}
 use Rattle.lines.specs.Writing.{over, writing, written, ReadsBack}
 use Rattle.lines.specs.declared.tag.Tag.{Tag}
 use Rattle.lines.proofs.Columns.{columns-more, length-columns}
@@ -34,8 +37,8 @@ over-more : (p e now after bs : List ℕ) (at : ℕ) → at ≡ length p → now
 over-more p e now after bs at l w q =
     let t : take at now ≡ p = ap (take at) w ∙ take-at p (drop (length p) e) at (sym l) in
     let d : drop (at + length bs) now ≡ drop (length (p ++ bs)) e =
-      ap (λ k. drop (k + length bs) now) l ∙ ap (drop (length p + length bs)) w ∙ drop-past p e (length bs)
-      ∙ ap (λ k. drop k e) (sym (length-append p bs)) in
+    ap (λ k. drop (k + length bs) now) l ∙ ap (drop (length p + length bs)) w ∙ drop-past p e (length bs)
+    ∙ ap (λ k. drop k e) (sym (length-append p bs)) in
     q ∙ ap (λ x. x ++ (bs ++ drop (at + length bs) now)) t ∙ ap (λ x. p ++ (bs ++ x)) d ∙ sym (append-assoc p bs (drop (length (p ++ bs)) e))
 
 -- a buffer into which columns have been written from a start on
@@ -50,35 +53,42 @@ with-none e start h =
 pub with-more : (e now after col ns : List ℕ) (start at i : ℕ) → start ≤ length e → i < length ns → at ≡ start + width * i → With start (take i ns) e now → col ≡ column (getD ns i 0) → after ≡ put-at at col now → With start (take (i + 1) ns) e after
 with-more e now after col ns start at i hs hi ha w k q =
     let l : at ≡ length (take start e ++ columns (take i ns)) =
-      omega (arith, length-append (take start e) (columns (take i ns)), length-take-le start e hs, length-columns (take i ns), length-take-le i ns (omega arith)) in
+    omega (arith, length-append (take start e) (columns (take i ns)), length-take-le start e hs, length-columns (take i ns), length-take-le i ns (omega arith)) in
     let same : (take start e ++ columns (take i ns)) ++ col ≡ take start e ++ columns (take (i + 1) ns) =
-      append-assoc (take start e) (columns (take i ns)) col
-      ∙ ap (λ x. take start e ++ x) (ap (λ x. columns (take i ns) ++ x) k ∙ sym (columns-more ns i hi)) in
+    append-assoc (take start e) (columns (take i ns)) col
+    ∙ ap (λ x. take start e ++ x) (ap (λ x. columns (take i ns) ++ x) k ∙ sym (columns-more ns i hi)) in
     subst (λ p. after ≡ over p e) same (over-more (take start e ++ columns (take i ns)) e now after col at l w q)
 
 pub with-all : (e now ns : List ℕ) (start i : ℕ) → start ≤ length e → length ns ≤ i → With start (take i ns) e now → now ≡ put-at start (columns ns) e
 with-all e now ns start i hs hi w =
     let l : length (take start e ++ columns ns) ≡ start + length (columns ns) =
-      omega (arith, length-append (take start e) (columns ns), length-take-le start e hs) in
+    omega (arith, length-append (take start e) (columns ns), length-take-le start e hs) in
     subst (λ xs. With start xs e now) (take-all i ns hi) w
     ∙ ap (λ k. (take start e ++ columns ns) ++ drop k e) l
     ∙ append-assoc (take start e) (columns ns) (drop (start + length (columns ns)) e)
 
 -- letters, columns and line feed, one after another
-pub line-over : (t : Tag) (ns e name a b z : List ℕ) → name ≡ letters t → a ≡ put-at 0 name e → b ≡ put-at 4 (columns ns) a → z ≡ put-at (4 + width * length ns) (feed ∷ []) b → z ≡ over (spelling t ns) e
+pub line-over : (t : Tag) (ns e name a b z : List ℕ) → name ≡ letters t → a ≡ put-at 0 name e → b ≡ put-at tag-length (columns ns) a → z ≡ put-at (tag-length + width * length ns) (feed ∷ []) b → z ≡ over (spelling t ns) e
 line-over t ns e name a b z n qa qb qz =
-    let h : length name ≡ 4 = ap length n ∙ length-letters t in
+    let h : length name ≡ tag-length = ap length n ∙ length-letters t in
     let w1 = over-more [] e e a name 0 refl refl qa in
-    let w2 = over-more name e a b (columns ns) 4 (sym h) w1 qb in
-    let w3 = over-more (name ++ columns ns) e b z (feed ∷ []) (4 + width * length ns) (omega (arith, length-append name (columns ns), length-columns ns)) w2 qz in
+    let w2 = over-more name e a b (columns ns) tag-length (sym h) w1 qb in
+    let w3 = over-more (name ++ columns ns) e b z (feed ∷ []) (tag-length + width * length ns) (omega (arith, length-append name (columns ns), length-columns ns)) w2 qz in
     let same : (name ++ columns ns) ++ (feed ∷ []) ≡ spelling t ns = append-assoc name (columns ns) (feed ∷ []) ∙ ap (λ x. x ++ (columns ns ++ feed ∷ [])) n in
     subst (λ p. z ≡ over p e) same w3
+
+-- small numbers are written where there is room
+pub writing-accepted : (t : Tag) (ns : List ℕ) (room : ℕ) → small ns ≡ true → length (spelling t ns) ≤ room → writing t ns room ≡ Accepted (length (spelling t ns))
+writing-accepted t ns room s h =
+    let needed = length (spelling t ns) in
+    cond-true (small ns) (cond (leb needed room) (Accepted needed) (BufferShort needed)) NumberTooLarge s
+    ∙ cond-true (leb needed room) (Accepted needed) (BufferShort needed) (le-leb needed room h)
 
 -- an accepted writing leaves the line at the front of the buffer, so it reads back
 pub reads-back : (t : Tag) (ns out after : List ℕ) (r : ℕ × ℕ) → r ≡ answer-of (writing t ns (length out)) → after ≡ written t ns out → Allowed t ns → r .0 ≡ 0 → ReadsBack t ns after
 reads-back t ns out after r a w f z =
     let o = writing t ns (length out) in
     let e : after ≡ over (spelling t ns) out =
-      w ∙ cond-true (accepts o) (over (spelling t ns) out) out (eq-eqb (answer-of o .0) 0 (ap (λ (q : ℕ × ℕ). q .0) (sym a) ∙ z)) in
+    w ∙ cond-true (accepts o) (over (spelling t ns) out) out (eq-eqb (answer-of o .0) 0 (ap (λ (q : ℕ × ℕ). q .0) (sym a) ∙ z)) in
     let b : Begins after t ns = (f, (drop (length (spelling t ns)) out, e)) in
     record { begins = b; only = λ u ms d. one-spelling after u t ms ns d b }

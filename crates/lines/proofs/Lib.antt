@@ -3,3 +3,4 @@ pub mod Buffers
 pub mod Lines
 pub mod Readings
 pub mod Pieces
+pub mod Logs

@@ -11,13 +11,13 @@ use Rattle.std.proofs.shelf.Tests.{and-parts, leb-true}
 use Rattle.std.proofs.shelf.Ways.{tells}
 use Rattle.std.specs.declared.option.Option.{Option}
 use Rattle.std.specs.declared.option.Option.the-variants.{Some}
-use Rattle.lines.specs.Spelling.{letters, digit-or-space, column, columns, small, spelling, width, largest, feed, Begins, OneSpelling}
+use Rattle.lines.specs.Spelling.{letters, digit-or-space, column, columns, small, spelling, tag-length, width, largest, feed, Begins, OneSpelling}
 use Rattle.lines.specs.Reading.{worth, tags, tag-of}
 use Rattle.lines.specs.declared.tag.Tag.{Tag}
 use Rattle.lines.specs.declared.tag.Tag.the-variants.{Plnt, Chrt, Inpt, Fixd, Verd, Step, Setl, Show, Rsrc, Lead, Task, Offr, Runs, Line}
 use Rattle.lines.proofs.Columns.{worth-column, length-columns}
 
-pub length-letters : (t : Tag) → length (letters t) ≡ 4
+pub length-letters : (t : Tag) → length (letters t) ≡ tag-length
 length-letters Plnt = refl
 length-letters Chrt = refl
 length-letters Inpt = refl
@@ -33,7 +33,7 @@ length-letters Offr = refl
 length-letters Runs = refl
 length-letters Line = refl
 
-pub length-spelling : (t : Tag) (ns : List ℕ) → length (spelling t ns) ≡ 5 + width * length ns
+pub length-spelling : (t : Tag) (ns : List ℕ) → length (spelling t ns) ≡ tag-length + width * length ns + 1
 length-spelling t ns =
     omega (arith, length-append (letters t) (columns ns ++ feed ∷ []), length-append (columns ns) (feed ∷ []), length-letters t, length-columns ns)
 
@@ -60,13 +60,13 @@ tag-again Line = refl
 
 pub same-tag : (t u : Tag) (xs ys : List ℕ) → letters t ++ xs ≡ letters u ++ ys → t ≡ u
 same-tag t u xs ys e =
-    let q : letters t ≡ letters u = sym (take-at (letters t) xs 4 (length-letters t)) ∙ ap (take 4) e ∙ take-at (letters u) ys 4 (length-letters u) in
+    let q : letters t ≡ letters u = sym (take-at (letters t) xs tag-length (length-letters t)) ∙ ap (take tag-length) e ∙ take-at (letters u) ys tag-length (length-letters u) in
     let s : Some t ≡ Some u = sym (tag-again t) ∙ ap (λ x. tag-of x tags) q ∙ tag-again u in
     cc
 
 -- what follows the letters
 pub same-after : (t u : Tag) (xs ys : List ℕ) → letters t ++ xs ≡ letters u ++ ys → xs ≡ ys
-same-after t u xs ys e = sym (drop-at (letters t) xs 4 (length-letters t)) ∙ ap (drop 4) e ∙ drop-at (letters u) ys 4 (length-letters u)
+same-after t u xs ys e = sym (drop-at (letters t) xs tag-length (length-letters t)) ∙ ap (drop tag-length) e ∙ drop-at (letters u) ys tag-length (length-letters u)
 
 -- a column does not begin with a line feed
 pub not-feed : (n : ℕ) (xs ys : List ℕ) → column n ++ xs ≡ feed ∷ ys → ⊥
@@ -91,5 +91,5 @@ same-numbers (n ∷ ns) (m ∷ ms) xs ys a b e =
 pub one-spelling : OneSpelling
 one-spelling bs t u ns ms a b =
     let e : letters t ++ (columns ns ++ (feed ∷ (a .1 .0))) ≡ letters u ++ (columns ms ++ (feed ∷ (b .1 .0))) =
-      sym (spelling-then t ns (a .1 .0)) ∙ sym (a .1 .1) ∙ b .1 .1 ∙ spelling-then u ms (b .1 .0) in
+    sym (spelling-then t ns (a .1 .0)) ∙ sym (a .1 .1) ∙ b .1 .1 ∙ spelling-then u ms (b .1 .0) in
     (same-tag t u _ _ e, same-numbers ns ms _ _ (a .0 .1) (b .0 .1) (same-after t u _ _ e))

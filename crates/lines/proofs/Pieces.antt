@@ -1,20 +1,23 @@
 -- Pieces up to a line feed, and the lines that they are.
 use mathlib.Core.Path.{_≡_, refl, sym, ap, _∙_}
-use mathlib.Core.Bool.{true, false, cond, _&&_}
+use mathlib.Core.Bool.{Bool, true, false, cond, _&&_}
 use mathlib.Core.List.{List, [], _∷_, _++_}
 use Prim.Native.Nat.{ℕ, _+_, _-_, _*_, _/_, _≤_, _<_}
 use native.Mathlib.Omega.{arith}
 use lib.Dec.{leb, eqb}
 use lib.ListN.{length, take, drop, getD}
 use Rattle.std.proofs.shelf.Lists.{take-at, drop-at, drop-more, drop-all}
-use Rattle.std.proofs.shelf.Tests.{and-parts, and-from, leb-true, cond-true, cond-false, cond-both, ne-eqb, eq-eqb}
+use Rattle.std.proofs.shelf.Tests.{and-parts, and-from, leb-true, cond-true, cond-false, cond-both, eqb-true, eqb-false, ne-eqb, eq-eqb}
 use Rattle.std.proofs.shelf.Ways.{tells}
 use Rattle.std.proofs.shelf.Equals.{sameBytes-decides}
 use Rattle.std.specs.shelf.Text.{sameBytes}
 use Rattle.std.specs.declared.option.Option.{Option}
 use Rattle.std.specs.declared.option.Option.the-variants.{Some, None}
-use Rattle.lines.specs.Spelling.{letters, digit-or-space, column, columns, small, counts, spelling, width, largest, feed, Allowed, Begins}
-use Rattle.lines.specs.Reading.{piece, tags, tag-of, worth, worths, if-spelled, line-tagged, line-of}
+use Rattle.lines.specs.Spelling.{letters, digit-or-space, column, columns, small, counts, spelling, tag-length, width, largest, feed, Allowed, Begins}
+use Rattle.systems.specs.Outcomes.{answer-of}
+use Rattle.systems.specs.declared.outcome.Outcome.the-variants.{Accepted}
+use Rattle.lines.specs.Reading.{input-of, ahead, Reads, piece, past-piece, tags, tag-of, worth, worths, if-spelled, line-tagged, line-of, heard, hearing, Hears}
+use Rattle.lines.specs.declared.reader.LineReader.{LineReader}
 use Rattle.lines.specs.declared.tag.Tag.{Tag}
 use Rattle.lines.specs.declared.tag.Tag.the-variants.{Plnt, Chrt, Inpt, Fixd, Verd, Step, Setl, Show, Rsrc, Lead, Task, Offr, Runs, Line}
 use Rattle.lines.proofs.Columns.{worth-column}
@@ -78,7 +81,7 @@ past-letters Runs xs = refl
 past-letters Line xs = refl
 
 -- a line is the first piece of the bytes that begin with it
-pub piece-line : (bs : List ℕ) (t : Tag) (ns : List ℕ) → Begins bs t ns → piece bs ≡ spelling t ns
+piece-line : (bs : List ℕ) (t : Tag) (ns : List ℕ) → Begins bs t ns → piece bs ≡ spelling t ns
 piece-line bs t ns b =
     ap piece (b .1 .1 ∙ spelling-then t ns (b .1 .0)) ∙ past-letters t (columns ns ++ (feed ∷ (b .1 .0)))
     ∙ ap (λ y. letters t ++ y) (past-columns ns (feed ∷ (b .1 .0)))
@@ -95,10 +98,10 @@ worths-columns (n ∷ ns) xs h =
 spelling-line : (t : Tag) (ns : List ℕ) → Allowed t ns → line-of (spelling t ns) ≡ Some (t, ns)
 unfolding line-of
 spelling-line t ns f =
-    let a : tag-of (take 4 (spelling t ns)) tags ≡ Some t = ap (λ x. tag-of x tags) (take-at (letters t) (columns ns ++ feed ∷ []) 4 (length-letters t)) ∙ tag-again t in
-    let k : (length (spelling t ns) - 5) / width ≡ length ns = omega (arith, length-spelling t ns) in
-    let w : worths ((length (spelling t ns) - 5) / width) (drop 4 (spelling t ns)) ≡ ns =
-      ap (λ j. worths j (drop 4 (spelling t ns))) k ∙ ap (worths (length ns)) (drop-at (letters t) (columns ns ++ feed ∷ []) 4 (length-letters t)) ∙ worths-columns ns (feed ∷ []) (f .1) in
+    let a : tag-of (take tag-length (spelling t ns)) tags ≡ Some t = ap (λ x. tag-of x tags) (take-at (letters t) (columns ns ++ feed ∷ []) tag-length (length-letters t)) ∙ tag-again t in
+    let k : (length (spelling t ns) - tag-length) / width ≡ length ns = omega (arith, length-spelling t ns) in
+    let w : worths ((length (spelling t ns) - tag-length) / width) (drop tag-length (spelling t ns)) ≡ ns =
+    ap (λ j. worths j (drop tag-length (spelling t ns))) k ∙ ap (worths (length ns)) (drop-at (letters t) (columns ns ++ feed ∷ []) tag-length (length-letters t)) ∙ worths-columns ns (feed ∷ []) (f .1) in
     ap (line-tagged (spelling t ns)) a ∙ ap (if-spelled (spelling t ns) t) w
     ∙ cond-true (counts t (length ns) && (small ns && sameBytes (spelling t ns) (spelling t ns))) (Some (t, ns)) None (and-from _ _ (f .0) (and-from _ _ (f .1) (sameBytes-decides (spelling t ns) (spelling t ns) .1 refl)))
 
@@ -110,24 +113,56 @@ Spelled p (Some x) = Allowed (x .0) (x .1) × (p ≡ spelling (x .0) (x .1))
 spelled-tagged : (p : List ℕ) (o : Option Tag) → Spelled p (line-tagged p o)
 spelled-tagged p None = tt
 spelled-tagged p (Some t) =
-    let ns = worths ((length p - 5) / width) (drop 4 p) in
+    let ns = worths ((length p - tag-length) / width) (drop tag-length p) in
     cond-both (counts t (length ns) && (small ns && sameBytes p (spelling t ns))) (Some (t, ns)) None (Spelled p)
     (λ e. let a = and-parts (counts t (length ns)) (small ns && sameBytes p (spelling t ns)) e in
-      let b = and-parts (small ns) (sameBytes p (spelling t ns)) (a .1) in
-      ((a .0, b .0), sameBytes-decides p (spelling t ns) .0 (b .1)))
+    let b = and-parts (small ns) (sameBytes p (spelling t ns)) (a .1) in
+    ((a .0, b .0), sameBytes-decides p (spelling t ns) .0 (b .1)))
     (λ _. tt)
 
 line-spelled : (p : List ℕ) → Spelled p (line-of p)
 unfolding line-of
-line-spelled p = spelled-tagged p (tag-of (take 4 p) tags)
+line-spelled p = spelled-tagged p (tag-of (take tag-length p) tags)
 
 none-spelled : (p : List ℕ) (o : Option (Tag × List ℕ)) → Spelled p o → ((t : Tag) (ns : List ℕ) → Allowed t ns → p ≡ spelling t ns → ⊥) → o ≡ None
 none-spelled p None s h = refl
 none-spelled p (Some x) s h = absurd (h (x .0) (x .1) (s .0) (s .1))
 
 -- the first piece is the line with which the bytes begin, or none
-pub line-some : (bs : List ℕ) (t : Tag) (ns : List ℕ) → Begins bs t ns → line-of (piece bs) ≡ Some (t, ns)
+line-some : (bs : List ℕ) (t : Tag) (ns : List ℕ) → Begins bs t ns → line-of (piece bs) ≡ Some (t, ns)
 line-some bs t ns b = ap line-of (piece-line bs t ns b) ∙ spelling-line t ns (b .0)
 
-pub line-none : (bs : List ℕ) → ((t : Tag) (ns : List ℕ) → Begins bs t ns → ⊥) → line-of (piece bs) ≡ None
+line-none : (bs : List ℕ) → ((t : Tag) (ns : List ℕ) → Begins bs t ns → ⊥) → line-of (piece bs) ≡ None
 line-none bs h = none-spelled (piece bs) (line-of (piece bs)) (line-spelled (piece bs)) (λ t ns f e. h t ns (f, (drop (length (piece bs)) bs, piece-rest bs ∙ ap (λ x. x ++ drop (length (piece bs)) bs) e)))
+
+-- a line that was read is the next piece
+hears-line : (before mid after : LineReader) (answer : ℕ × ℕ) (t : Tag) (ns : List ℕ) → Reads before mid answer t ns → input-of after ≡ input-of mid → after .place ≡ mid .place → answer .0 ≡ 0 → Hears before after answer (t, ns)
+hears-line before mid after answer t ns r i p z =
+    let some = line-some (ahead before) t ns (r .accepted z) in
+    let past : mid .place ≡ past-piece before =
+    r .passed z .1 ∙ ap (λ q. before .place + length q) (sym (piece-line (ahead before) t ns (r .accepted z))) in
+    record {
+      same-input = i ∙ r .same-input;
+      passed = p ∙ past;
+      answered = r .passed z .0 ∙ ap (λ k. answer-of (Accepted k)) past ∙ ap (λ o. answer-of (hearing o (past-piece before))) (sym some);
+      said-so = ap heard (sym some);
+    }
+
+-- where no line was read, the next piece is none
+hears-none : (before mid after : LineReader) (answer : ℕ × ℕ) (t : Tag) (ns : List ℕ) → Reads before mid answer t ns → input-of after ≡ input-of mid → after .place ≡ past-piece mid → (answer .0 ≡ 0 → ⊥) → Hears before after answer (t, ns)
+hears-none before mid after answer t ns r i p z =
+    let f = r .refused z in
+    let none = line-none (ahead before) (λ u ms b. z (r .complete u ms b .0)) in
+    let past : past-piece mid ≡ past-piece before =
+    ap (λ k. k + length (piece (drop k (input-of mid)))) (f .2) ∙ ap (λ bs. before .place + length (piece (drop (before .place) bs))) (r .same-input) in
+    record {
+      same-input = i ∙ r .same-input;
+      passed = p ∙ past;
+      answered = f .0 ∙ ap (λ o. answer-of (hearing o (past-piece before))) (sym none);
+      said-so = f .1 ∙ ap heard (sym none);
+    }
+
+-- a reader that passes the piece unless it accepted a line
+pub hears : (accepted : Bool) (before mid after : LineReader) (answer : ℕ × ℕ) (t : Tag) (ns : List ℕ) → eqb (answer .0) 0 ≡ accepted → Reads before mid answer t ns → input-of after ≡ input-of mid → after .place ≡ cond accepted (mid .place) (past-piece mid) → Hears before after answer (t, ns)
+hears true before mid after answer t ns e r i p = hears-line before mid after answer t ns r i p (eqb-true (answer .0) 0 e)
+hears false before mid after answer t ns e r i p = hears-none before mid after answer t ns r i p (eqb-false (answer .0) 0 e)

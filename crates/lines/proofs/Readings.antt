@@ -11,7 +11,7 @@ use Rattle.std.proofs.shelf.Tests.{and-parts, and-from, leb-true, le-leb, eqb-t
 use Rattle.std.specs.Options.{Cases}
 use Rattle.std.specs.declared.option.Option.{Option}
 use Rattle.std.specs.declared.option.Option.the-variants.{Some, None}
-use Rattle.lines.specs.Spelling.{letters, column, columns, small, counts, spelling, width, largest, most, feed, Allowed, Begins}
+use Rattle.lines.specs.Spelling.{letters, column, columns, small, counts, spelling, tag-length, width, largest, most, feed, Allowed, Begins}
 use Rattle.systems.specs.Outcomes.{answer-of}
 use Rattle.systems.specs.declared.outcome.Outcome.the-variants.{Accepted, NotALine}
 use Rattle.lines.specs.Reading.{input-of, ahead, no-line, Reads}
@@ -22,14 +22,14 @@ use Rattle.lines.proofs.Columns.{columns-push, length-columns}
 use Rattle.lines.proofs.Lines.{length-letters, spelling-then, same-tag, same-after, not-feed, one-spelling}
 
 -- the tag: too few bytes, or letters that are some tag's or none's
-pub tag-short : (input : List ℕ) (p : ℕ) → length input - p < 4 → (t : Tag) (rest : List ℕ) → drop p input ≡ letters t ++ rest → ⊥
+pub tag-short : (input : List ℕ) (p : ℕ) → length input - p < tag-length → (t : Tag) (rest : List ℕ) → drop p input ≡ letters t ++ rest → ⊥
 tag-short input p h t rest e =
     omega (arith, ap length e, length-drop p input, length-append (letters t) rest, length-letters t)
 
-pub tag-found : (o : Option Tag) (input name : List ℕ) (p : ℕ) → name ≡ take 4 (drop p input) → Cases o ((t : Tag) → name ≡ letters t → ⊥) (λ t. name ≡ letters t) → Cases o ((t : Tag) (rest : List ℕ) → drop p input ≡ letters t ++ rest → ⊥) (λ t. drop p input ≡ letters t ++ drop (p + 4) input)
-tag-found None input name p n h = λ t rest e. h t (n ∙ ap (take 4) e ∙ take-at (letters t) rest 4 (length-letters t))
+pub tag-found : (o : Option Tag) (input name : List ℕ) (p : ℕ) → name ≡ take tag-length (drop p input) → Cases o ((t : Tag) → name ≡ letters t → ⊥) (λ t. name ≡ letters t) → Cases o ((t : Tag) (rest : List ℕ) → drop p input ≡ letters t ++ rest → ⊥) (λ t. drop p input ≡ letters t ++ drop (p + tag-length) input)
+tag-found None input name p n h = λ t rest e. h t (n ∙ ap (take tag-length) e ∙ take-at (letters t) rest tag-length (length-letters t))
 tag-found (Some t) input name p n h =
-    sym (take-append-drop 4 (drop p input)) ∙ ap (λ x. x ++ drop 4 (drop p input)) (sym n ∙ h) ∙ ap (λ x. letters t ++ x) (drop-drop 4 p input)
+    sym (take-append-drop tag-length (drop p input)) ∙ ap (λ x. x ++ drop tag-length (drop p input)) (sym n ∙ h) ∙ ap (λ x. letters t ++ x) (drop-drop tag-length p input)
 
 -- the numbers: what columns have in common with a line's goes on as that line does
 peel : (ns ms bs rest : List ℕ) → columns ns ++ bs ≡ columns ms ++ (feed ∷ rest) → (length ns ≤ length ms) × (bs ≡ columns (drop (length ns) ms) ++ (feed ∷ rest))
@@ -112,9 +112,9 @@ module _ (t : Tag) (k : ℕ) (input : List ℕ) (at : ℕ) where
 pub column-next : (all ns input : List ℕ) (at to k n : ℕ) → k < length ns → to ≡ at + width → all ≡ columns (take k ns) ++ drop at input → take width (drop at input) ≡ column n → all ≡ columns (take (k + 1) (set ns k n)) ++ drop to input
 column-next all ns input at to k n h m e q =
     let d : drop at input ≡ column n ++ drop to input =
-      sym (take-append-drop width (drop at input)) ∙ ap (λ x. x ++ drop width (drop at input)) q ∙ ap (λ x. column n ++ x) (drop-drop width at input ∙ ap (λ i. drop i input) (sym m)) in
+    sym (take-append-drop width (drop at input)) ∙ ap (λ x. x ++ drop width (drop at input)) q ∙ ap (λ x. column n ++ x) (drop-drop width at input ∙ ap (λ i. drop i input) (sym m)) in
     let c : columns (take (k + 1) (set ns k n)) ≡ columns (take k ns) ++ column n =
-      ap columns (take-more-set ns k n h) ∙ columns-push (take k ns) n in
+    ap columns (take-more-set ns k n h) ∙ columns-push (take k ns) n in
     e ∙ ap (λ x. columns (take k ns) ++ x) d ∙ sym (append-assoc (columns (take k ns)) (column n) (drop to input)) ∙ ap (λ x. x ++ drop to input) (sym c)
 
 -- the line feed ends the line
@@ -126,13 +126,13 @@ line-ends all ns ms input at h b e q =
 pub no-tag : (bs : List ℕ) → ((t : Tag) (rest : List ℕ) → bs ≡ letters t ++ rest → ⊥) → (u : Tag) (ms : List ℕ) → Begins bs u ms → ⊥
 no-tag bs h u ms b = h u (columns ms ++ (feed ∷ (b .1 .0))) (b .1 .1 ∙ spelling-then u ms (b .1 .0))
 
-pub no-numbers : (input : List ℕ) (place mid : ℕ) (t : Tag) → mid ≡ place + 4 → drop place input ≡ letters t ++ drop (place + 4) input → ((ns rest : List ℕ) → Allowed t ns → drop mid input ≡ columns ns ++ (feed ∷ rest) → ⊥) → (u : Tag) (ms : List ℕ) → Begins (drop place input) u ms → ⊥
+pub no-numbers : (input : List ℕ) (place mid : ℕ) (t : Tag) → mid ≡ place + tag-length → drop place input ≡ letters t ++ drop (place + tag-length) input → ((ns rest : List ℕ) → Allowed t ns → drop mid input ≡ columns ns ++ (feed ∷ rest) → ⊥) → (u : Tag) (ms : List ℕ) → Begins (drop place input) u ms → ⊥
 no-numbers input place mid t m e h u ms b =
-    let q : letters t ++ drop (place + 4) input ≡ letters u ++ (columns ms ++ (feed ∷ (b .1 .0))) = sym e ∙ b .1 .1 ∙ spelling-then u ms (b .1 .0) in
+    let q : letters t ++ drop (place + tag-length) input ≡ letters u ++ (columns ms ++ (feed ∷ (b .1 .0))) = sym e ∙ b .1 .1 ∙ spelling-then u ms (b .1 .0) in
     let s : u ≡ t = sym (same-tag t u _ _ q) in
     h ms (b .1 .0) (subst (λ v. Allowed v ms) s (b .0)) (ap (λ k. drop k input) m ∙ same-after t u _ _ q)
 
-pub tag-and-numbers : (input : List ℕ) (place mid after : ℕ) (t : Tag) (ns : List ℕ) → mid ≡ place + 4 → drop place input ≡ letters t ++ drop (place + 4) input → drop mid input ≡ columns ns ++ (feed ∷ drop after input) → drop place input ≡ spelling t ns ++ drop after input
+pub tag-and-numbers : (input : List ℕ) (place mid after : ℕ) (t : Tag) (ns : List ℕ) → mid ≡ place + tag-length → drop place input ≡ letters t ++ drop (place + tag-length) input → drop mid input ≡ columns ns ++ (feed ∷ drop after input) → drop place input ≡ spelling t ns ++ drop after input
 tag-and-numbers input place mid after t ns m e q =
     e ∙ ap (λ x. letters t ++ x) (ap (λ k. drop k input) (sym m) ∙ q) ∙ sym (spelling-then t ns (drop after input))
 
@@ -152,7 +152,7 @@ accepted-reads before after answer got t u ns i a p v f e =
     let x : after .place ≤ length (input-of after) = after .within in
     let b : Begins (ahead before) t ns = (f, (drop got (input-of before), e)) in
     let l : after .place ≡ before .place + length (spelling t ns) =
-      omega (arith, ap length e, ap length i, length-drop (before .place) (input-of before), length-drop got (input-of before), length-append (spelling t ns) (drop got (input-of before))) in
+    omega (arith, ap length e, ap length i, length-drop (before .place) (input-of before), length-drop got (input-of before), length-append (spelling t ns) (drop got (input-of before))) in
     subst (λ y. Reads before after answer y ns) (sym v)
     (record {
       same-input = i;

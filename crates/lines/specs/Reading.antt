@@ -12,7 +12,7 @@ use Rattle.std.specs.declared.option.Option.the-variants.{Some, None}
 use Rattle.systems.specs.Outcomes.{answer-of}
 use Rattle.systems.specs.declared.outcome.Outcome.{Outcome}
 use Rattle.systems.specs.declared.outcome.Outcome.the-variants.{Accepted, NotALine}
-use Rattle.lines.specs.Spelling.{letters, spelling, counts, small, width, feed, Begins}
+use Rattle.lines.specs.Spelling.{letters, spelling, counts, small, tag-length, width, feed, zero-digit, Begins}
 use Rattle.lines.specs.declared.line.Line.{Line as LineRead}
 use Rattle.lines.specs.declared.reader.LineReader.{LineReader}
 use Rattle.lines.specs.declared.tag.Tag.{Tag}
@@ -62,12 +62,12 @@ tag-of bs (t ∷ ts) = cond (sameBytes bs (letters t)) (Some t) (tag-of bs ts)
 -- what bytes are worth as digits; a space is worth nothing
 abbrev pub worth-after : ℕ → List ℕ → ℕ
 worth-after n [] = n
-worth-after n (b ∷ bs) = worth-after (n * 10 + (b - 48)) bs
+worth-after n (b ∷ bs) = worth-after (n * 10 + (b - zero-digit)) bs
 
 abbrev pub worth : List ℕ → ℕ
 worth bs = worth-after 0 bs
 
--- what so many columns are worth
+-- what each of so many columns is worth
 abbrev pub worths : ℕ → List ℕ → List ℕ
 worths zero bs = []
 worths (suc k) bs = worth (take width bs) ∷ worths k (drop width bs)
@@ -77,11 +77,11 @@ if-spelled p t ns = cond (counts t (length ns) && (small ns && sameBytes p (spel
 
 abbrev pub line-tagged : List ℕ → Option Tag → Option (Tag × List ℕ)
 line-tagged p None = None
-line-tagged p (Some t) = if-spelled p t (worths ((length p - 5) / width) (drop 4 p))
+line-tagged p (Some t) = if-spelled p t (worths ((length p - tag-length) / width) (drop tag-length p))
 
 -- the line that a piece is, if it is one: what its bytes are worth, provided that they are its spelling
 unfoldable pub line-of : List ℕ → Option (Tag × List ℕ)
-line-of p = line-tagged p (tag-of (take 4 p) tags)
+line-of p = line-tagged p (tag-of (take tag-length p) tags)
 
 -- what is heard of a piece, and the outcome where the piece ends at a place
 abbrev pub heard : Option (Tag × List ℕ) → Tag × List ℕ
@@ -91,3 +91,10 @@ heard (Some x) = x
 abbrev pub hearing : Option (Tag × List ℕ) → ℕ → Outcome
 hearing None end = NotALine
 hearing (Some x) end = Accepted end
+
+-- the next piece is passed, and the answer says whether it is a line and which
+pub record Hears (before after : LineReader) (answer : ℕ × ℕ) (line : Tag × List ℕ) : Type 0 where
+  pub same-input : input-of after ≡ input-of before
+  pub passed : after .place ≡ past-piece before
+  pub answered : answer ≡ answer-of (hearing (line-of (piece (ahead before))) (past-piece before))
+  pub said-so : line ≡ heard (line-of (piece (ahead before)))

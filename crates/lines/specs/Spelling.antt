@@ -9,7 +9,10 @@ use lib.ListN.{length}
 use Rattle.lines.specs.declared.tag.Tag.{Tag}
 use Rattle.lines.specs.declared.tag.Tag.the-variants.{Plnt, Chrt, Inpt, Fixd, Verd, Step, Setl, Show, Rsrc, Lead, Task, Offr, Runs, Line}
 
--- the places of a column, the largest number that they hold, and the most numbers that a line has
+-- the letters of a tag, the places of a column, the largest number that they hold, and the most numbers of a line
+abbrev pub tag-length : ℕ
+tag-length = 4
+
 abbrev pub width : ℕ
 width = 6
 
@@ -19,8 +22,15 @@ largest = 999999
 abbrev pub most : ℕ
 most = 32
 
+-- bytes: line feed, space, and the digit zero
 abbrev pub feed : ℕ
 feed = 10
+
+abbrev pub space : ℕ
+space = 32
+
+abbrev pub zero-digit : ℕ
+zero-digit = 48
 
 abbrev pub letters : Tag → List ℕ
 letters Plnt = codes "PLNT"
@@ -57,11 +67,11 @@ counts Line n = false
 
 -- the last digit of a number
 abbrev pub digit : ℕ → ℕ
-digit n = 48 + n % 10
+digit n = zero-digit + n % 10
 
 -- the same, but a space where nothing is left of the number
 abbrev pub digit-or-space : ℕ → ℕ
-digit-or-space n = cond (eqb n 0) 32 (digit n)
+digit-or-space n = cond (eqb n 0) space (digit n)
 
 -- what is left of a number, right-justified in so many places
 abbrev pub justified : ℕ → ℕ → List ℕ

@@ -4,12 +4,13 @@ ghost use Prim.Native.Nat.{ℕ, _+_, _-_, _≤_};
 ghost use lib.ListN.{length, take, drop};
 ghost use Rattle.std.specs.Options.{Cases as BySome};
 ghost use Rattle.std.specs.Orderings.{Decides};
-ghost use Rattle.lines.specs.Spelling.{digit as lastDigit, digit-or-space as spaced, column as columnOf, width, largest};
+ghost use Rattle.lines.specs.Spelling.{digit as lastDigit, digit-or-space as spaced, column as columnOf, width, largest, zero-digit};
 ghost use Rattle.lines.specs.Reading.{worth as worthOf};
 use crate::bytes::same;
 
 // The places of a column, and the largest number that they hold.
 pub(crate) const COLUMN: usize = 6;
+
 pub(crate) const LARGEST: u32 = 999_999;
 
 // The last digit of a number.
@@ -46,7 +47,7 @@ pub(crate) fn column(number: u32) -> [u8; COLUMN]
 
 // What a byte is worth as a digit; a space is worth nothing.
 fn worth(byte: u8) -> u32
-    ensures { λ r. ⌜ r ≡ byte - 48 ⌝ }
+    ensures { λ r. ⌜ r ≡ byte - zero-digit ⌝ }
 {
     u32::from(byte.saturating_sub(b'0'))
 }

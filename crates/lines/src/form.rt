@@ -5,7 +5,7 @@ ghost use mathlib.Core.List.{List, _∷_, _++_};
 ghost use Prim.Native.Nat.{ℕ, _+_, _≤_};
 ghost use lib.ListN.{length, drop};
 ghost use Rattle.std.specs.Options.{Cases as BySome, isSome};
-ghost use Rattle.lines.specs.Spelling.{letters, columns, feed, Allowed};
+ghost use Rattle.lines.specs.Spelling.{letters, columns, tag-length, feed, Allowed};
 ghost use Rattle.lines.specs.Reading.{said};
 use crate::column::pass_column;
 use crate::line::Line;
@@ -16,8 +16,8 @@ use crate::tag::Tag;
 // Passes the letters of a tag.
 pub(crate) fn pass_tag(input: &[u8], place: &mut usize) -> Option<Tag>
     requires { ⌜ now place ≤ length (now input) ⌝ }
-    ensures place { λ r. ⌜ (isSome r ≡ true → (now (place .exit) ≡ now (place .entry) + 4) × (now (place .exit) ≤ length (now (input .entry)))) ⌝ }
-    ensures tag { λ r. ⌜ BySome r ((t : Tag) (rest : List ℕ) → drop (now (place .entry)) (now (input .entry)) ≡ letters t ++ rest → ⊥) (λ t. drop (now (place .entry)) (now (input .entry)) ≡ letters t ++ drop (now (place .entry) + 4) (now (input .entry))) ⌝ }
+    ensures place { λ r. ⌜ (isSome r ≡ true → (now (place .exit) ≡ now (place .entry) + tag-length) × (now (place .exit) ≤ length (now (input .entry)))) ⌝ }
+    ensures tag { λ r. ⌜ BySome r ((t : Tag) (rest : List ℕ) → drop (now (place .entry)) (now (input .entry)) ≡ letters t ++ rest → ⊥) (λ t. drop (now (place .entry)) (now (input .entry)) ≡ letters t ++ drop (now (place .entry) + tag-length) (now (input .entry))) ⌝ }
 {
     if input.len() - *place < LETTERS {
         return None;

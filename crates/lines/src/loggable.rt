@@ -2,13 +2,16 @@
 ghost use mathlib.Core.Path.{_≡_};
 ghost use mathlib.Core.Bool.{true};
 ghost use mathlib.Core.List.{List};
-ghost use Prim.Native.Nat.{ℕ};
+ghost use Prim.Native.Nat.{ℕ, _≤_};
 ghost use lib.ListN.{length};
 ghost use Rattle.std.specs.declared.option.Option.{Option as Maybe};
+ghost use Rattle.std.specs.declared.option.Option.the-variants.{Some};
 ghost use Rattle.systems.specs.Outcomes.{answer-of};
 ghost use Rattle.lines.specs.declared.tag.Tag.the-variants.{Offr};
+ghost use Rattle.lines.specs.Spelling.{spelling};
 ghost use Rattle.lines.specs.Writing.{writing, written};
 ghost use Rattle.lines.specs.Logging.{Numbered, StateLine};
+use crate::reader::LineReader;
 use systems::system::System;
 
 pub trait Loggable: System {
@@ -28,4 +31,17 @@ pub trait Loggable: System {
     // The state that the numbers of a line are.
     fn state_of(&self, given: &[u32]) -> Option<Self::State>
         ensures { λ r. ⌜ r ≡ restored (now (self .entry)) (now (given .entry)) ⌝ };
+}
+
+// Writes a state as a line, reads that line and decodes its numbers: the state again, if it fits and the buffer has room.
+pub fn reread<L: Loggable>(system: &L, state: &L::State, buffer: &mut [u8]) -> Option<L::State>
+    ensures { λ r. ⌜ (L·System .meaning (now (system .entry)) .fits (now (state .entry)) ≡ true → length (spelling Offr (L·Loggable .numbers (now (system .entry)) (now (state .entry)))) ≤ length (now (buffer .entry)) → r ≡ Some (now (state .entry))) ⌝ }
+{
+    let (number, _) = system.write(state, buffer);
+    if number != 0 {
+        return None;
+    }
+    let mut reader = LineReader::new(buffer);
+    let (_, line) = reader.read();
+    system.state_of(line.numbers())
 }

@@ -6,7 +6,7 @@ ghost use Rattle.std.specs.Options.{Cases as BySome};
 use crate::bytes::same;
 use crate::line::MOST;
 
-// The letters of a tag.
+// How many letters a tag has.
 pub(crate) const LETTERS: usize = 4;
 
 #[derive(Clone, Copy)]

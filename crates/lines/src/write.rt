@@ -5,7 +5,7 @@ ghost use mathlib.Core.List.{_++_};
 ghost use Prim.Native.Nat.{_+_, _*_, _≤_};
 ghost use lib.ListN.{length, take, drop};
 ghost use Rattle.systems.specs.Outcomes.{answer-of, accepts};
-ghost use Rattle.lines.specs.Spelling.{small, spelling, columns, width, Allowed};
+ghost use Rattle.lines.specs.Spelling.{small, spelling, columns, tag-length, width, Allowed};
 ghost use Rattle.lines.specs.Writing.{fitted, writing, written, over, ReadsBack};
 use crate::column::COLUMN;
 use crate::column::LARGEST;
@@ -48,7 +48,7 @@ fn put_columns(out: &mut [u8], start: usize, numbers: &[u32])
 
 // Writes a line that there is room for.
 fn spell(tag: Tag, numbers: &[u32], out: &mut [u8])
-    requires { ⌜ 5 + width * length (now numbers) ≤ length (now out) ⌝ }
+    requires { ⌜ tag-length + width * length (now numbers) + 1 ≤ length (now out) ⌝ }
     ensures { λ _. ⌜ now (out .exit) ≡ over (spelling tag (now (numbers .entry))) (now (out .entry)) ⌝ }
 {
     put(out, 0, &tag.name());
@@ -58,7 +58,7 @@ fn spell(tag: Tag, numbers: &[u32], out: &mut [u8])
 
 // Writes a line if its numbers are small and there is room.
 fn write_line(tag: Tag, numbers: &[u32], out: &mut [u8]) -> Outcome
-    ensures outcome { λ r. ⌜ r ≡ fitted (small (now (numbers .entry))) (5 + width * length (now (numbers .entry))) (length (now (out .entry))) ⌝ }
+    ensures outcome { λ r. ⌜ r ≡ fitted (small (now (numbers .entry))) (tag-length + width * length (now (numbers .entry)) + 1) (length (now (out .entry))) ⌝ }
     ensures after { λ r. ⌜ now (out .exit) ≡ cond (accepts r) (over (spelling tag (now (numbers .entry))) (now (out .entry))) (now (out .entry)) ⌝ }
 {
     if !all_small(numbers) {

@@ -1,12 +1,13 @@
 // The reader's calls.
 ghost use mathlib.Core.Path.{_≡_};
+ghost use mathlib.Core.Bool.{cond};
 ghost use Prim.Native.Nat.{_+_, _≤_};
 ghost use lib.ListN.{length, drop};
 ghost use Rattle.std.specs.Orderings.{Decides};
 ghost use Rattle.systems.specs.Outcomes.{answer-of};
 ghost use Rattle.systems.specs.declared.outcome.Outcome.the-variants.{Accepted};
 ghost use Rattle.lines.specs.Spelling.{OneSpelling};
-ghost use Rattle.lines.specs.Reading.{said, input-of, ahead, Reads, piece, past-piece, line-of, heard, hearing};
+ghost use Rattle.lines.specs.Reading.{said, input-of, Reads, piece, past-piece, Hears};
 use super::Guard;
 use super::LineReader;
 use crate::form::pass_numbers;
@@ -75,17 +76,22 @@ impl<'a> LineReader<'a> {
         self.place == self.input.len()
     }
 
-    // Reads a line, and passes what is not a line.
-    pub fn next_line(&mut self) -> ((u32, usize), Line)
+    // Passes the next line feed, or goes to the end, unless a line was accepted.
+    fn skip_unless(&mut self, accepted: bool)
         ensures input { λ _. ⌜ input-of (now (self .exit)) ≡ input-of (now (self .entry)) ⌝ }
-        ensures place { λ _. ⌜ now (self .exit) .place ≡ past-piece (now (self .entry)) ⌝ }
-        ensures answer { λ r. ⌜ r .0 ≡ answer-of (hearing (line-of (piece (ahead (now (self .entry))))) (past-piece (now (self .entry)))) ⌝ }
-        ensures line { λ r. ⌜ said (r .1) ≡ heard (line-of (piece (ahead (now (self .entry))))) ⌝ }
+        ensures place { λ _. ⌜ now (self .exit) .place ≡ cond accepted (now (self .entry) .place) (past-piece (now (self .entry))) ⌝ }
     {
-        let ((number, value), line) = self.read();
-        if number != 0 {
+        if !accepted {
             self.skip();
         }
+    }
+
+    // Reads a line, and passes what is not a line.
+    pub fn next_line(&mut self) -> ((u32, usize), Line)
+        ensures { λ r. ⌜ Hears (now (self .entry)) (now (self .exit)) (r .0) (said (r .1)) ⌝ }
+    {
+        let ((number, value), line) = self.read();
+        self.skip_unless(number == 0);
         ((number, value), line)
     }
 }

@@ -12,8 +12,9 @@ returns-then-input-at-lt-COLUMN c = λ n h q. column-short (c .args .input .now)
 pub returns-else-number-le-LARGEST : need.returns-else-number-le-LARGEST
 returns-else-number-le-LARGEST c = λ n h q.
     elim (c .else-number-le-LARGEST .came) [
-      else-number-le-LARGEST·by·then-number-le-LARGEST·else-is-column w ↦
-        is-own-column _ (c .worth-at-number .result) n (w .is-column .result) (c .worth-at-number .ensures) (w .is-column .ensures .1) (w .if-is-column .left) h q
-    | else-number-le-LARGEST·by·else-number-le-LARGEST w ↦
-        let e : c .worth-at-number .result ≡ n = c .worth-at-number .ensures ∙ ap worth q ∙ worth-column n h in
-        omega (arith, w .if-number-le-LARGEST .left) ]
+      | else-number-le-LARGEST·by·then-number-le-LARGEST·else-is-column w ↦
+          is-own-column _ (c .worth-at-number .result) n (w .is-column .result) (c .worth-at-number .ensures) (w .is-column .ensures .1) (w .if-is-column .left) h q
+      | else-number-le-LARGEST·by·else-number-le-LARGEST w ↦
+          let e : c .worth-at-number .result ≡ n = c .worth-at-number .ensures ∙ ap worth q ∙ worth-column n h in
+          omega (arith, w .if-number-le-LARGEST .left)
+    ]

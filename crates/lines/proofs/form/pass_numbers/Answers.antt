@@ -24,10 +24,13 @@ returns-in-rest c =
 pub loop-place-again : need.loop-place-again
 loop-place-again c =
     let n = c .in-Some .ensures tt in
-    let l : c .loop-place .count < length (c .loop-place .numbers) = omega arith in
-    (omega (arith, n .2), omega arith, length-set (c .loop-place .numbers) _ _ ∙ c .loop-place .inv .2,
-    ap small (take-more-set (c .loop-place .numbers) (c .loop-place .count) _ l) ∙ small-push (take (c .loop-place .count) (c .loop-place .numbers)) _ (c .loop-place .inv .3) (n .0),
-    column-next _ (c .loop-place .numbers) (c .args .input .now) (c .loop-place .place) _ (c .loop-place .count) _ l (n .1) (c .loop-place .inv .4) (n .3))
+    let l : c .loop-place .count < length (c .loop-place .numbers) = omega arith in (
+      omega (arith, n .2),
+      omega arith,
+      length-set (c .loop-place .numbers) _ _ ∙ c .loop-place .inv .2,
+      ap small (take-more-set (c .loop-place .numbers) (c .loop-place .count) _ l) ∙ small-push (take (c .loop-place .count) (c .loop-place .numbers)) _ (c .loop-place .inv .3) (n .0),
+      column-next _ (c .loop-place .numbers) (c .args .input .now) (c .loop-place .place) _ (c .loop-place .count) _ l (n .1) (c .loop-place .inv .4) (n .3),
+    )
 
 pub returns-then-place-input : need.returns-then-place-input
 returns-then-place-input c =
@@ -36,17 +39,20 @@ returns-then-place-input c =
 
 pub returns-then-not-allows : need.returns-then-not-allows
 returns-then-not-allows c = elim (c .loop-place-test .came) [
-  then-loop-place-test·else-input-place-ne10 w ↦
-    not-line (c .args .tag) _ (take (c .loop-place .count) (c .loop-place .numbers)) _ (c .loop-place .inv .4)
-    (stop-count (c .args .tag) _ (c .args .input .now) (c .loop-place .place) (w .loop-place-test .taken) (w .if-input-place-ne10 .left) (ap (counts (c .args .tag)) (length-take-le _ _ (omega arith)) ∙ sym (c .allows .ensures) ∙ c .if-not-allows .taken))
-  | else-loop-place-test w ↦ λ ns rest f e. c .if-place-input .left (omega (arith, w .loop-place-test .left)) ]
+  | then-loop-place-test·else-input-place-ne10 w ↦
+      not-line (c .args .tag) _ (take (c .loop-place .count) (c .loop-place .numbers)) _ (c .loop-place .inv .4)
+      (stop-count (c .args .tag) _ (c .args .input .now) (c .loop-place .place) (w .loop-place-test .taken) (w .if-input-place-ne10 .left) (ap (counts (c .args .tag)) (length-take-le _ _ (omega arith)) ∙ sym (c .allows .ensures) ∙ c .if-not-allows .taken))
+  | else-loop-place-test w ↦ λ ns rest f e. c .if-place-input .left (omega (arith, w .loop-place-test .left))
+]
 
 pub returns : need.returns
 returns c =
     let s : take (c .new .result .count) (c .new .result .numbers) ≡ take (c .loop-place .count) (c .loop-place .numbers) = ap (λ (x : Tag × List ℕ). x .1) (c .new .ensures) in
     let lt : c .loop-place .place < length (c .args .input .now) = omega (arith, c .if-place-input .left) in
     let at-feed : getD (c .args .input .now) (c .loop-place .place) 0 ≡ feed =
-      elim (c .loop-place-test .came) [ then-loop-place-test·else-input-place-ne10 w ↦ w .if-input-place-ne10 .left | else-loop-place-test w ↦ absurd (omega (arith, w .loop-place-test .left)) ] in
-    (omega arith, ap (λ (x : Tag × List ℕ). x .0) (c .new .ensures),
-    (ap (λ (x : List ℕ). counts (c .args .tag) (length x)) s ∙ ap (counts (c .args .tag)) (length-take-le _ _ (omega arith)) ∙ sym (c .allows .ensures) ∙ c .if-not-allows .left, ap small s ∙ c .loop-place .inv .3),
-    line-ends _ _ _ (c .args .input .now) (c .loop-place .place) lt at-feed s (c .loop-place .inv .4))
+    elim (c .loop-place-test .came) [ then-loop-place-test·else-input-place-ne10 w ↦ w .if-input-place-ne10 .left | else-loop-place-test w ↦ absurd (omega (arith, w .loop-place-test .left)) ] in (
+      omega arith,
+      ap (λ (x : Tag × List ℕ). x .0) (c .new .ensures),
+      (ap (λ (x : List ℕ). counts (c .args .tag) (length x)) s ∙ ap (counts (c .args .tag)) (length-take-le _ _ (omega arith)) ∙ sym (c .allows .ensures) ∙ c .if-not-allows .left, ap small s ∙ c .loop-place .inv .3),
+      line-ends _ _ _ (c .args .input .now) (c .loop-place .place) lt at-feed s (c .loop-place .inv .4),
+    )

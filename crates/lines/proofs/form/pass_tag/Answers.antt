@@ -4,6 +4,7 @@ use Prim.Native.Nat.{_+_, _-_}
 use native.Mathlib.Omega.{arith}
 use lib.ListN.{take, drop}
 use Rattle.std.proofs.shelf.Tests.{false≢true}
+use Rattle.lines.specs.Spelling.{tag-length}
 use Rattle.lines.proofs.Readings.{tag-short, tag-found}
 use Rattle.lines.proofs.form.pass_tag.Needs as need
 
@@ -12,7 +13,7 @@ returns-then-input-place-lt-LETTERS c = record { place = λ e. absurd (false≢t
 
 pub returns : need.returns
 returns c =
-    let k : c .args .place .now + 4 - c .args .place .now ≡ 4 = omega arith in
+    let k : c .args .place .now + tag-length - c .args .place .now ≡ tag-length = omega arith in
     record {
       place = λ _. (omega arith, omega arith);
       tag = tag-found _ (c .args .input .now) _ (c .args .place .now) (ap (λ j. take j (drop (c .args .place .now) (c .args .input .now))) k) (c .of .ensures);

@@ -15,8 +15,8 @@ returns c =
     let ns = c .args .numbers .now in
     let out = c .args .out .now in
     let o : c .write-line .result ≡ writing t ns (length out) =
-      c .write-line .ensures .outcome ∙ ap (λ k. fitted (small ns) k (length out)) (sym (length-spelling t ns)) in
+    c .write-line .ensures .outcome ∙ ap (λ k. fitted (small ns) k (length out)) (sym (length-spelling t ns)) in
     let a = c .answer .ensures ∙ ap answer-of o in
     let w : c .write-line .last .out ≡ written t ns out =
-      c .write-line .ensures .after ∙ ap (λ p. cond (accepts p) (over (spelling t ns) out) out) o in
+    c .write-line .ensures .after ∙ ap (λ p. cond (accepts p) (over (spelling t ns) out) out) o in
     record { answer = a; after = w; back = reads-back t ns out _ _ a w }

@@ -1,6 +1,7 @@
 -- On each way out the guard leaves the place where the answer says.
 use mathlib.Core.Path.{_≡_, refl, _∙_}
 use Prim.Native.Nat.{_+_}
+use Rattle.lines.specs.Spelling.{tag-length}
 use Rattle.lines.proofs.Lines.{one-spelling}
 use Rattle.lines.proofs.Readings.{refused-reads, accepted-reads, no-tag, no-numbers, tag-and-numbers}
 use Rattle.lines.proofs.reader.LineReader.read.Needs as need
@@ -14,10 +15,10 @@ returns-in-rest c =
 
 pub returns-in-rest-pass-numbers : need.returns-in-rest-pass-numbers
 returns-in-rest-pass-numbers c =
-    let mid : c .pass-tag .last .place ≡ c .args .self .now .place + 4 = c .in-Some .ensures tt .place refl .0 in
+    let mid : c .pass-tag .last .place ≡ c .args .self .now .place + tag-length = c .in-Some .ensures tt .place refl .0 in
     record {
       reads = refused-reads (c .args .self .now) _ _ _ refl (c .answer-in-rest-pass-numbers .ensures) (c .none-in-rest-pass-numbers .ensures) (c .drop-guard-in-rest-pass-numbers .ensures)
-        (no-numbers (c .args .self .now .input .now) (c .args .self .now .place) (c .pass-tag .last .place) (c .in-Some .tag) mid (c .in-Some .ensures tt .tag) (c .in-rest-pass-numbers .ensures tt));
+          (no-numbers (c .args .self .now .input .now) (c .args .self .now .place) (c .pass-tag .last .place) (c .in-Some .tag) mid (c .in-Some .ensures tt .tag) (c .in-rest-pass-numbers .ensures tt));
       one = one-spelling;
     }
 
@@ -26,6 +27,6 @@ returns c =
     let n = c .in-Some-pass-numbers .ensures tt in
     record {
       reads = accepted-reads (c .args .self .now) _ _ (c .pass-numbers .last .place) (c .in-Some .tag) _ _ refl (c .answer-2 .ensures) (c .drop-guard-2 .ensures) (n .1) (n .2)
-        (tag-and-numbers (c .args .self .now .input .now) (c .args .self .now .place) (c .pass-tag .last .place) (c .pass-numbers .last .place) (c .in-Some .tag) _ (c .in-Some .ensures tt .place refl .0) (c .in-Some .ensures tt .tag) (n .3));
+          (tag-and-numbers (c .args .self .now .input .now) (c .args .self .now .place) (c .pass-tag .last .place) (c .pass-numbers .last .place) (c .in-Some .tag) _ (c .in-Some .ensures tt .place refl .0) (c .in-Some .ensures tt .tag) (n .3));
       one = one-spelling;
     }

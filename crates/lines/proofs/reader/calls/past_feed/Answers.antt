@@ -11,8 +11,9 @@ pub returns-then-at-input : need.returns-then-at-input
 returns-then-at-input c =
     record {
       place = elim (c .loop-at-test .came) [
-        then-loop-at-test·else-input-at-ne10 v ↦ omega (arith, piece-feed (c .args .input .now) (c .loop-at .at) (v .loop-at-test .taken) (v .if-input-at-ne10 .left))
-      | else-loop-at-test v ↦ omega (arith, v .loop-at-test .left) ];
+        | then-loop-at-test·else-input-at-ne10 v ↦ omega (arith, piece-feed (c .args .input .now) (c .loop-at .at) (v .loop-at-test .taken) (v .if-input-at-ne10 .left))
+        | else-loop-at-test v ↦ omega (arith, v .loop-at-test .left)
+      ];
       within = omega arith;
     }
 

@@ -6,4 +6,6 @@ pub mod line;
 pub mod loggable;
 pub mod reader;
 pub mod tag;
+#[cfg(test)]
+mod tests;
 pub mod write;

@@ -2,15 +2,16 @@
 ghost use mathlib.Core.Path.{_≡_};
 ghost use mathlib.Core.Bool.{true};
 ghost use mathlib.Core.List.{List};
-ghost use Prim.Native.Nat.{ℕ, _≤_};
+ghost use Prim.Native.Nat.{ℕ};
 ghost use lib.ListN.{length};
 ghost use Rattle.std.specs.declared.option.Option.{Option as Maybe};
 ghost use Rattle.std.specs.declared.option.Option.the-variants.{Some};
 ghost use Rattle.systems.specs.Outcomes.{answer-of};
 ghost use Rattle.lines.specs.declared.tag.Tag.the-variants.{Offr};
-ghost use Rattle.lines.specs.Spelling.{spelling};
+ghost use Rattle.lines.specs.Reading.{said};
 ghost use Rattle.lines.specs.Writing.{writing, written};
 ghost use Rattle.lines.specs.Logging.{Numbered, StateLine};
+use crate::line::Line;
 use crate::reader::LineReader;
 use systems::system::System;
 
@@ -33,15 +34,32 @@ pub trait Loggable: System {
         ensures { λ r. ⌜ r ≡ restored (now (self .entry)) (now (given .entry)) ⌝ };
 }
 
-// Writes a state as a line, reads that line and decodes its numbers: the state again, if it fits and the buffer has room.
-pub fn reread<L: Loggable>(system: &L, state: &L::State, buffer: &mut [u8]) -> Option<L::State>
-    ensures { λ r. ⌜ (L·System .meaning (now (system .entry)) .fits (now (state .entry)) ≡ true → length (spelling Offr (L·Loggable .numbers (now (system .entry)) (now (state .entry)))) ≤ length (now (buffer .entry)) → r ≡ Some (now (state .entry))) ⌝ }
+// What the numbers of a line are restored to.
+fn state_in<L: Loggable>(system: &L, line: &Line) -> Option<L::State>
+    ensures { λ r. ⌜ r ≡ L·Loggable .restored (now (system .entry)) (said (now (line .entry)) .1) ⌝ }
 {
-    let (number, _) = system.write(state, buffer);
-    if number != 0 {
-        return None;
-    }
-    let mut reader = LineReader::new(buffer);
-    let (_, line) = reader.read();
     system.state_of(line.numbers())
+}
+
+// Reads a line and decodes its numbers: the state, if the bytes begin with a state's line.
+fn decoded<L: Loggable>(system: &L, bytes: &[u8]) -> Option<L::State>
+    ensures { λ r. ⌜ ((x : L·State) → StateLine (L·Loggable .restored (now (system .entry))) x (now (bytes .entry)) → r ≡ Some x) ⌝ }
+{
+    let mut reader = LineReader::new(bytes);
+    let (_, line) = reader.read();
+    state_in(system, &line)
+}
+
+// Writes a state as a line, reads the line and decodes it: where the writing is accepted, a state that fits comes back.
+pub fn reread<L: Loggable>(
+    system: &L,
+    state: &L::State,
+    buffer: &mut [u8],
+) -> ((u32, usize), Option<L::State>)
+    ensures answer { λ r. ⌜ r .0 ≡ answer-of (writing Offr (L·Loggable .numbers (now (system .entry)) (now (state .entry))) (length (now (buffer .entry)))) ⌝ }
+    ensures after { λ _. ⌜ now (buffer .exit) ≡ written Offr (L·Loggable .numbers (now (system .entry)) (now (state .entry))) (now (buffer .entry)) ⌝ }
+    ensures same { λ r. ⌜ (L·System .meaning (now (system .entry)) .fits (now (state .entry)) ≡ true → r .0 .0 ≡ 0 → r .1 ≡ Some (now (state .entry))) ⌝ }
+{
+    let answer = system.write(state, buffer);
+    (answer, decoded(system, buffer))
 }

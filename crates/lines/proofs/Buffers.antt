@@ -1,14 +1,17 @@
 -- Bytes written one after another from the front of a buffer, until they spell a line.
 use mathlib.Core.Path.{_≡_, refl, sym, ap, subst, _∙_}
+use mathlib.Core.Bool.{true, cond}
 use mathlib.Core.List.{List, [], _∷_, _++_, append-assoc}
 use Prim.Native.Nat.{ℕ, _+_, _*_, _≤_, _<_}
 use native.Mathlib.Omega.{arith}
+use lib.Dec.{leb}
 use lib.ListN.{length, take, drop, getD, length-append}
 use Rattle.std.proofs.shelf.Lists.{take-at, take-all, take-append-drop, drop-at, drop-drop, append-nil, length-take-le}
 use borrow.Rule.Slice.PartMut.{putMid}
-use Rattle.std.proofs.shelf.Tests.{cond-true, eq-eqb}
+use Rattle.std.proofs.shelf.Tests.{cond-true, eq-eqb, le-leb}
 use Rattle.systems.specs.Outcomes.{answer-of, accepts}
-use Rattle.lines.specs.Spelling.{column, columns, spelling, letters, tag-length, width, feed, Allowed, Begins}
+use Rattle.systems.specs.declared.outcome.Outcome.the-variants.{Accepted, NumberTooLarge, BufferShort}
+use Rattle.lines.specs.Spelling.{column, columns, small, spelling, letters, tag-length, width, feed, Allowed, Begins}
 use Rattle.lines.specs.Writing.{over, writing, written, ReadsBack}
 use Rattle.lines.specs.declared.tag.Tag.{Tag}
 use Rattle.lines.proofs.Columns.{columns-more, length-columns}
@@ -73,6 +76,13 @@ line-over t ns e name a b z n qa qb qz =
     let w3 = over-more (name ++ columns ns) e b z (feed ∷ []) (tag-length + width * length ns) (omega (arith, length-append name (columns ns), length-columns ns)) w2 qz in
     let same : (name ++ columns ns) ++ (feed ∷ []) ≡ spelling t ns = append-assoc name (columns ns) (feed ∷ []) ∙ ap (λ x. x ++ (columns ns ++ feed ∷ [])) n in
     subst (λ p. z ≡ over p e) same w3
+
+-- small numbers are written where there is room
+pub writing-accepted : (t : Tag) (ns : List ℕ) (room : ℕ) → small ns ≡ true → length (spelling t ns) ≤ room → writing t ns room ≡ Accepted (length (spelling t ns))
+writing-accepted t ns room s h =
+    let needed = length (spelling t ns) in
+    cond-true (small ns) (cond (leb needed room) (Accepted needed) (BufferShort needed)) NumberTooLarge s
+    ∙ cond-true (leb needed room) (Accepted needed) (BufferShort needed) (le-leb needed room h)
 
 -- an accepted writing leaves the line at the front of the buffer, so it reads back
 pub reads-back : (t : Tag) (ns out after : List ℕ) (r : ℕ × ℕ) → r ≡ answer-of (writing t ns (length out)) → after ≡ written t ns out → Allowed t ns → r .0 ≡ 0 → ReadsBack t ns after

@@ -1,5 +1,5 @@
 -- Pieces up to a line feed, and the lines that they are.
-use mathlib.Core.Path.{_≡_, refl, sym, ap, _∙_}
+use mathlib.Core.Path.{_≡_, refl, sym, ap, subst, _∙_}
 use mathlib.Core.Bool.{Bool, true, false, cond, _&&_}
 use mathlib.Core.List.{List, [], _∷_, _++_}
 use Prim.Native.Nat.{ℕ, _+_, _-_, _*_, _/_, _≤_, _<_}
@@ -16,7 +16,7 @@ use Rattle.std.specs.declared.option.Option.the-variants.{Some, None}
 use Rattle.lines.specs.Spelling.{letters, digit-or-space, column, columns, small, counts, spelling, tag-length, width, largest, feed, Allowed, Begins}
 use Rattle.systems.specs.Outcomes.{answer-of}
 use Rattle.systems.specs.declared.outcome.Outcome.the-variants.{Accepted}
-use Rattle.lines.specs.Reading.{input-of, ahead, Reads, piece, past-piece, tags, tag-of, worth, worths, if-spelled, line-tagged, line-of, heard, hearing, Hears}
+use Rattle.lines.specs.Reading.{input-of, ahead, Reads, piece, past-piece, tags, tag-of, worth, worths, if-spelled, line-tagged, line-of, heard, hearing, Hears, LineExact}
 use Rattle.lines.specs.declared.reader.LineReader.{LineReader}
 use Rattle.lines.specs.declared.tag.Tag.{Tag}
 use Rattle.lines.specs.declared.tag.Tag.the-variants.{Plnt, Chrt, Inpt, Fixd, Verd, Step, Setl, Show, Rsrc, Lead, Task, Offr, Runs, Line}
@@ -124,16 +124,25 @@ line-spelled : (p : List ℕ) → Spelled p (line-of p)
 unfolding line-of
 line-spelled p = spelled-tagged p (tag-of (take tag-length p) tags)
 
-none-spelled : (p : List ℕ) (o : Option (Tag × List ℕ)) → Spelled p o → ((t : Tag) (ns : List ℕ) → Allowed t ns → p ≡ spelling t ns → ⊥) → o ≡ None
-none-spelled p None s h = refl
-none-spelled p (Some x) s h = absurd (h (x .0) (x .1) (s .0) (s .1))
+line-begins : (bs : List ℕ) (t : Tag) (ns : List ℕ) → line-of (piece bs) ≡ Some (t, ns) → Begins bs t ns
+line-begins bs t ns e =
+    let s = subst (Spelled (piece bs)) e (line-spelled (piece bs)) in
+    let rest = drop (length (piece bs)) bs in
+    (s .0, (rest, piece-rest bs ∙ ap (λ x. x ++ rest) (s .1)))
 
 -- the first piece is the line with which the bytes begin, or none
 line-some : (bs : List ℕ) (t : Tag) (ns : List ℕ) → Begins bs t ns → line-of (piece bs) ≡ Some (t, ns)
 line-some bs t ns b = ap line-of (piece-line bs t ns b) ∙ spelling-line t ns (b .0)
 
+none-but : (o : Option (Tag × List ℕ)) → ((t : Tag) (ns : List ℕ) → o ≡ Some (t, ns) → ⊥) → o ≡ None
+none-but None h = refl
+none-but (Some x) h = absurd (h (x .0) (x .1) refl)
+
 line-none : (bs : List ℕ) → ((t : Tag) (ns : List ℕ) → Begins bs t ns → ⊥) → line-of (piece bs) ≡ None
-line-none bs h = none-spelled (piece bs) (line-of (piece bs)) (line-spelled (piece bs)) (λ t ns f e. h t ns (f, (drop (length (piece bs)) bs, piece-rest bs ∙ ap (λ x. x ++ drop (length (piece bs)) bs) e)))
+line-none bs h = none-but (line-of (piece bs)) (λ t ns e. h t ns (line-begins bs t ns e))
+
+pub line-exact : LineExact
+line-exact bs t ns = (line-begins bs t ns, line-some bs t ns)
 
 -- a line that was read is the next piece
 hears-line : (before mid after : LineReader) (answer : ℕ × ℕ) (t : Tag) (ns : List ℕ) → Reads before mid answer t ns → input-of after ≡ input-of mid → after .place ≡ mid .place → answer .0 ≡ 0 → Hears before after answer (t, ns)

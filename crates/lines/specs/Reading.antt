@@ -92,6 +92,10 @@ abbrev pub hearing : Option (Tag × List ℕ) → ℕ → Outcome
 hearing None end = NotALine
 hearing (Some x) end = Accepted end
 
+-- the line of the first piece is the line with which the bytes begin, if they begin with one
+abbrev pub LineExact : Type 0
+LineExact = (bs : List ℕ) (t : Tag) (ns : List ℕ) → (line-of (piece bs) ≡ Some (t, ns) → Begins bs t ns) × (Begins bs t ns → line-of (piece bs) ≡ Some (t, ns))
+
 -- the next piece is passed, and the answer says whether it is a line and which
 pub record Hears (before after : LineReader) (answer : ℕ × ℕ) (line : Tag × List ℕ) : Type 0 where
   pub same-input : input-of after ≡ input-of before

@@ -2,7 +2,7 @@
 use mathlib.Core.Path.{_≡_}
 use mathlib.Core.Bool.{Bool, true, false, cond, _&&_}
 use mathlib.Core.List.{List, [], _∷_, _++_}
-use Prim.Native.Nat.{ℕ, zero, suc, _/_, _%_, _+_, _-_}
+use Prim.Native.Nat.{ℕ, zero, suc, _/_, _%_, _+_, _-_, _*_}
 use lib.Chars.{codes}
 use lib.Dec.{eqb, leb}
 use lib.ListN.{length}
@@ -21,6 +21,10 @@ largest = 999999
 
 abbrev pub most : ℕ
 most = 32
+
+-- the bytes of the longest line: a tag, the most columns, and a line feed
+abbrev pub longest : ℕ
+longest = tag-length + width * most + 1
 
 -- bytes: line feed, space, and the digit zero
 abbrev pub feed : ℕ

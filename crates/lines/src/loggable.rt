@@ -2,12 +2,13 @@
 ghost use mathlib.Core.Path.{_≡_};
 ghost use mathlib.Core.Bool.{true};
 ghost use mathlib.Core.List.{List};
-ghost use Prim.Native.Nat.{ℕ};
+ghost use Prim.Native.Nat.{ℕ, _≤_};
 ghost use lib.ListN.{length};
 ghost use Rattle.std.specs.declared.option.Option.{Option as Maybe};
 ghost use Rattle.std.specs.declared.option.Option.the-variants.{Some};
 ghost use Rattle.systems.specs.Outcomes.{answer-of};
 ghost use Rattle.lines.specs.declared.tag.Tag.the-variants.{Offr};
+ghost use Rattle.lines.specs.Spelling.{longest};
 ghost use Rattle.lines.specs.Reading.{said};
 ghost use Rattle.lines.specs.Writing.{writing, written};
 ghost use Rattle.lines.specs.Logging.{Numbered, StateLine};
@@ -50,7 +51,7 @@ fn decoded<L: Loggable>(system: &L, bytes: &[u8]) -> Option<L::State>
     state_in(system, &line)
 }
 
-// Writes a state as a line, reads the line and decodes it: where the writing is accepted, a state that fits comes back.
+// Writes a state as a line, reads the line and decodes it: a state that fits comes back, and the longest line has room for it.
 pub fn reread<L: Loggable>(
     system: &L,
     state: &L::State,
@@ -58,6 +59,7 @@ pub fn reread<L: Loggable>(
 ) -> ((u32, usize), Option<L::State>)
     ensures answer { λ r. ⌜ r .0 ≡ answer-of (writing Offr (L·Loggable .numbers (now (system .entry)) (now (state .entry))) (length (now (buffer .entry)))) ⌝ }
     ensures after { λ _. ⌜ now (buffer .exit) ≡ written Offr (L·Loggable .numbers (now (system .entry)) (now (state .entry))) (now (buffer .entry)) ⌝ }
+    ensures room { λ r. ⌜ (L·System .meaning (now (system .entry)) .fits (now (state .entry)) ≡ true → longest ≤ length (now (buffer .entry)) → r .0 .0 ≡ 0) ⌝ }
     ensures same { λ r. ⌜ (L·System .meaning (now (system .entry)) .fits (now (state .entry)) ≡ true → r .0 .0 ≡ 0 → r .1 ≡ Some (now (state .entry))) ⌝ }
 {
     let answer = system.write(state, buffer);

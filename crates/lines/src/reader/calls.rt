@@ -7,7 +7,7 @@ ghost use Rattle.std.specs.Orderings.{Decides};
 ghost use Rattle.systems.specs.Outcomes.{answer-of};
 ghost use Rattle.systems.specs.declared.outcome.Outcome.the-variants.{Accepted};
 ghost use Rattle.lines.specs.Spelling.{OneSpelling};
-ghost use Rattle.lines.specs.Reading.{said, input-of, Reads, piece, past-piece, Hears};
+ghost use Rattle.lines.specs.Reading.{said, input-of, Reads, piece, past-piece, Hears, LineExact};
 use super::Guard;
 use super::LineReader;
 use crate::form::pass_numbers;
@@ -88,7 +88,8 @@ impl<'a> LineReader<'a> {
 
     // Reads a line, and passes what is not a line.
     pub fn next_line(&mut self) -> ((u32, usize), Line)
-        ensures { λ r. ⌜ Hears (now (self .entry)) (now (self .exit)) (r .0) (said (r .1)) ⌝ }
+        ensures hears { λ r. ⌜ Hears (now (self .entry)) (now (self .exit)) (r .0) (said (r .1)) ⌝ }
+        ensures exact { λ _. ⌜ LineExact ⌝ }
     {
         let ((number, value), line) = self.read();
         self.skip_unless(number == 0);

@@ -5,7 +5,7 @@ use mathlib.Core.List.{List, [], _∷_, _++_, append-assoc}
 use Prim.Native.Nat.{ℕ, _+_, _-_, _*_, _/_, _%_, _<_, _≤_}
 use native.Mathlib.Omega.{arith}
 use lib.ListN.{length, take, drop, getD, length-append, length-drop, length-take}
-use Rattle.std.proofs.shelf.Lists.{drop-more, take-more, append-nil}
+use Rattle.std.proofs.shelf.Lists.{drop-more, drop-drop, take-more, take-append-drop, append-nil}
 use Rattle.std.proofs.shelf.Tests.{both-ways}
 use Rattle.std.proofs.shelf.Ways.{tells}
 use Rattle.lines.specs.Spelling.{digit-or-space, column, columns, width, largest}
@@ -47,6 +47,10 @@ six xs i h =
 -- too few bytes for a column
 pub column-short : (xs : List ℕ) (i n : ℕ) → length xs - i < width → take width (drop i xs) ≡ column n → ⊥
 column-short xs i n h e = omega (arith, ap length e, length-take width (drop i xs), length-drop i xs)
+
+-- the bytes of a column, with what follows them
+pub column-first : (xs : List ℕ) (i n : ℕ) → take width (drop i xs) ≡ column n → drop i xs ≡ column n ++ drop (i + width) xs
+column-first xs i n e = sym (take-append-drop width (drop i xs)) ∙ ap (λ x. x ++ drop width (drop i xs)) e ∙ ap (λ x. column n ++ x) (drop-drop width i xs)
 
 columns-append : (xs ys : List ℕ) → columns (xs ++ ys) ≡ columns xs ++ columns ys
 columns-append [] ys = refl

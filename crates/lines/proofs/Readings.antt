@@ -6,7 +6,7 @@ use Prim.Native.Nat.{ℕ, zero, suc, _+_, _-_, _*_, _≤_, _<_}
 use native.Mathlib.Omega.{arith}
 use lib.Dec.{leb}
 use lib.ListN.{length, take, drop, getD, set, length-append, length-drop}
-use Rattle.std.proofs.shelf.Lists.{take-at, take-append-drop, take-more-set, drop-at, drop-drop, drop-more}
+use Rattle.std.proofs.shelf.Lists.{take-at, take-append-drop, take-more-set, drop-drop, drop-more}
 use Rattle.std.proofs.shelf.Tests.{and-parts, and-from, leb-true, le-leb, eqb-true, both-ways}
 use Rattle.std.specs.Options.{Cases}
 use Rattle.std.specs.declared.option.Option.{Option}
@@ -14,6 +14,7 @@ use Rattle.std.specs.declared.option.Option.the-variants.{Some, None}
 use Rattle.lines.specs.Spelling.{letters, column, columns, small, counts, spelling, tag-length, width, largest, most, feed, Allowed, Begins}
 use Rattle.systems.specs.Outcomes.{answer-of}
 use Rattle.systems.specs.declared.outcome.Outcome.the-variants.{Accepted, NotALine}
+use Rattle.lines.specs.Parts.{TagFirst, ColumnFirst, NumbersFirst}
 use Rattle.lines.specs.Reading.{input-of, ahead, no-line, Reads}
 use Rattle.lines.specs.declared.reader.LineReader.{LineReader}
 use Rattle.lines.specs.declared.tag.Tag.{Tag}
@@ -22,14 +23,14 @@ use Rattle.lines.proofs.Columns.{columns-push, length-columns}
 use Rattle.lines.proofs.Lines.{length-letters, spelling-then, same-tag, same-after, not-feed, one-spelling}
 
 -- the tag: too few bytes, or letters that are some tag's or none's
-pub tag-short : (input : List ℕ) (p : ℕ) → length input - p < tag-length → (t : Tag) (rest : List ℕ) → drop p input ≡ letters t ++ rest → ⊥
+pub tag-short : (input : List ℕ) (p : ℕ) → length input - p < tag-length → (t : Tag) (rest : List ℕ) → TagFirst (drop p input) t rest → ⊥
 tag-short input p h t rest e =
     omega (arith, ap length e, length-drop p input, length-append (letters t) rest, length-letters t)
 
-pub tag-found : (o : Option Tag) (input name : List ℕ) (p : ℕ) → name ≡ take tag-length (drop p input) → Cases o ((t : Tag) → name ≡ letters t → ⊥) (λ t. name ≡ letters t) → Cases o ((t : Tag) (rest : List ℕ) → drop p input ≡ letters t ++ rest → ⊥) (λ t. drop p input ≡ letters t ++ drop (p + tag-length) input)
-tag-found None input name p n h = λ t rest e. h t (n ∙ ap (take tag-length) e ∙ take-at (letters t) rest tag-length (length-letters t))
-tag-found (Some t) input name p n h =
-    sym (take-append-drop tag-length (drop p input)) ∙ ap (λ x. x ++ drop tag-length (drop p input)) (sym n ∙ h) ∙ ap (λ x. letters t ++ x) (drop-drop tag-length p input)
+pub tag-found : (o : Option Tag) (input name : List ℕ) (p : ℕ) → p + tag-length ≤ length input → name ≡ take tag-length (drop p input) → Cases o ((t : Tag) → name ≡ letters t → ⊥) (λ t. name ≡ letters t) → Cases o ((t : Tag) (rest : List ℕ) → TagFirst (drop p input) t rest → ⊥) (λ t. (p + tag-length ≤ length input) × TagFirst (drop p input) t (drop (p + tag-length) input))
+tag-found None input name p l n h = λ t rest e. h t (n ∙ ap (take tag-length) e ∙ take-at (letters t) rest tag-length (length-letters t))
+tag-found (Some t) input name p l n h =
+    (l, sym (take-append-drop tag-length (drop p input)) ∙ ap (λ x. x ++ drop tag-length (drop p input)) (sym n ∙ h) ∙ ap (λ x. letters t ++ x) (drop-drop tag-length p input))
 
 -- the numbers: what columns have in common with a line's goes on as that line does
 peel : (ns ms bs rest : List ℕ) → columns ns ++ bs ≡ columns ms ++ (feed ∷ rest) → (length ns ≤ length ms) × (bs ≡ columns (drop (length ns) ms) ++ (feed ∷ rest))
@@ -73,23 +74,23 @@ pub GoesOn : Tag → ℕ → List ℕ → List ℕ → List ℕ → Type 0
 GoesOn t k bs ns rest = (counts t (k + length ns) ≡ true) × (small ns ≡ true) × (bs ≡ columns ns ++ (feed ∷ rest))
 
 -- where the bytes after the columns read go on with no numbers, there is no line
-pub not-line : (t : Tag) (all ns bs : List ℕ) → all ≡ columns ns ++ bs → ((zs rest : List ℕ) → GoesOn t (length ns) bs zs rest → ⊥) → (ms rest : List ℕ) → Allowed t ms → all ≡ columns ms ++ (feed ∷ rest) → ⊥
+pub not-line : (t : Tag) (all ns bs : List ℕ) → all ≡ columns ns ++ bs → ((zs rest : List ℕ) → GoesOn t (length ns) bs zs rest → ⊥) → (ms rest : List ℕ) → NumbersFirst all t ms rest → ⊥
 unfolding GoesOn
-not-line t all ns bs e h ms rest f q =
-    let p = peel ns ms bs rest (sym e ∙ q) in
+not-line t all ns bs e h ms rest f =
+    let p = peel ns ms bs rest (sym e ∙ f .1) in
     let l : length ns + length (drop (length ns) ms) ≡ length ms = omega (arith, length-drop (length ns) ms, p .0) in
-    h (drop (length ns) ms) rest (ap (counts t) l ∙ f .0, small-drop (length ns) ms (f .1), p .1)
+    h (drop (length ns) ms) rest (ap (counts t) l ∙ f .0 .0, small-drop (length ns) ms (f .0 .1), p .1)
 
--- the five ways in which the bytes at a place do not go on
+-- the four ways in which the bytes at a place do not go on
 module _ (t : Tag) (k : ℕ) (input : List ℕ) (at : ℕ) where
   at-feed : (rest : List ℕ) → at < length input → drop at input ≡ feed ∷ rest → getD input at 0 ≡ feed
   at-feed rest h y = let e : getD input at 0 ∷ drop (at + 1) input ≡ feed ∷ rest = sym (drop-more input at 0 h) ∙ y in cc
 
-  pub stop-column : at < length input → (getD input at 0 ≡ feed → ⊥) → ((n : ℕ) → n ≤ largest → take width (drop at input) ≡ column n → ⊥) → (zs rest : List ℕ) → GoesOn t k (drop at input) zs rest → ⊥
+  pub stop-column : at < length input → (getD input at 0 ≡ feed → ⊥) → ((n : ℕ) (rest : List ℕ) → ColumnFirst (drop at input) n rest → ⊥) → (zs rest : List ℕ) → GoesOn t k (drop at input) zs rest → ⊥
   unfolding GoesOn
   stop-column h b g [] rest y = b (at-feed rest h (y .2))
   stop-column h b g (z ∷ zs) rest y =
-      g z (leb-true z largest (and-parts (leb z largest) (small zs) (y .1) .0)) (ap (take width) (y .2))
+      g z (columns zs ++ (feed ∷ rest)) (leb-true z largest (and-parts (leb z largest) (small zs) (y .1) .0), y .2)
 
   pub stop-full : at < length input → (getD input at 0 ≡ feed → ⊥) → k ≡ most → (zs rest : List ℕ) → GoesOn t k (drop at input) zs rest → ⊥
   unfolding GoesOn
@@ -109,13 +110,15 @@ module _ (t : Tag) (k : ℕ) (input : List ℕ) (at : ℕ) where
       not-feed z (columns zs ++ (feed ∷ rest)) (drop (at + 1) input) (sym (y .2) ∙ drop-more input at 0 h ∙ ap (λ x. x ∷ drop (at + 1) input) b)
 
 -- one more column was read
-pub column-next : (all ns input : List ℕ) (at to k n : ℕ) → k < length ns → to ≡ at + width → all ≡ columns (take k ns) ++ drop at input → take width (drop at input) ≡ column n → all ≡ columns (take (k + 1) (set ns k n)) ++ drop to input
-column-next all ns input at to k n h m e q =
-    let d : drop at input ≡ column n ++ drop to input =
-    sym (take-append-drop width (drop at input)) ∙ ap (λ x. x ++ drop width (drop at input)) q ∙ ap (λ x. column n ++ x) (drop-drop width at input ∙ ap (λ i. drop i input) (sym m)) in
+pub column-next : (all ns bs rest : List ℕ) (k n : ℕ) → k < length ns → all ≡ columns (take k ns) ++ bs → bs ≡ column n ++ rest → all ≡ columns (take (k + 1) (set ns k n)) ++ rest
+column-next all ns bs rest k n h e q =
     let c : columns (take (k + 1) (set ns k n)) ≡ columns (take k ns) ++ column n =
     ap columns (take-more-set ns k n h) ∙ columns-push (take k ns) n in
-    e ∙ ap (λ x. columns (take k ns) ++ x) d ∙ sym (append-assoc (columns (take k ns)) (column n) (drop to input)) ∙ ap (λ x. x ++ drop to input) (sym c)
+    e ∙ ap (λ x. columns (take k ns) ++ x) q ∙ sym (append-assoc (columns (take k ns)) (column n) rest) ∙ ap (λ x. x ++ rest) (sym c)
+
+-- the place after a column is further on
+pub column-passed : (input : List ℕ) (at to n : ℕ) → at ≤ length input → to ≤ length input → drop at input ≡ column n ++ drop to input → to ≡ at + width
+column-passed input at to n h l e = omega (arith, ap length e, length-drop at input, length-drop to input, length-append (column n) (drop to input))
 
 -- the line feed ends the line
 pub line-ends : (all ns ms input : List ℕ) (at : ℕ) → at < length input → getD input at 0 ≡ feed → ns ≡ ms → all ≡ columns ms ++ drop at input → all ≡ columns ns ++ (feed ∷ drop (at + 1) input)
@@ -123,18 +126,16 @@ line-ends all ns ms input at h b e q =
     q ∙ ap (λ x. columns ms ++ x) (drop-more input at 0 h ∙ ap (λ x. x ∷ drop (at + 1) input) b) ∙ ap (λ x. columns x ++ (feed ∷ drop (at + 1) input)) (sym e)
 
 -- the whole line: no tag, no numbers after the tag, or both
-pub no-tag : (bs : List ℕ) → ((t : Tag) (rest : List ℕ) → bs ≡ letters t ++ rest → ⊥) → (u : Tag) (ms : List ℕ) → Begins bs u ms → ⊥
+pub no-tag : (bs : List ℕ) → ((t : Tag) (rest : List ℕ) → TagFirst bs t rest → ⊥) → (u : Tag) (ms : List ℕ) → Begins bs u ms → ⊥
 no-tag bs h u ms b = h u (columns ms ++ (feed ∷ (b .1 .0))) (b .1 .1 ∙ spelling-then u ms (b .1 .0))
 
-pub no-numbers : (input : List ℕ) (place mid : ℕ) (t : Tag) → mid ≡ place + tag-length → drop place input ≡ letters t ++ drop (place + tag-length) input → ((ns rest : List ℕ) → Allowed t ns → drop mid input ≡ columns ns ++ (feed ∷ rest) → ⊥) → (u : Tag) (ms : List ℕ) → Begins (drop place input) u ms → ⊥
-no-numbers input place mid t m e h u ms b =
-    let q : letters t ++ drop (place + tag-length) input ≡ letters u ++ (columns ms ++ (feed ∷ (b .1 .0))) = sym e ∙ b .1 .1 ∙ spelling-then u ms (b .1 .0) in
-    let s : u ≡ t = sym (same-tag t u _ _ q) in
-    h ms (b .1 .0) (subst (λ v. Allowed v ms) s (b .0)) (ap (λ k. drop k input) m ∙ same-after t u _ _ q)
+pub no-numbers : (bs mid : List ℕ) (t : Tag) → TagFirst bs t mid → ((ns rest : List ℕ) → NumbersFirst mid t ns rest → ⊥) → (u : Tag) (ms : List ℕ) → Begins bs u ms → ⊥
+no-numbers bs mid t e h u ms b =
+    let q : letters t ++ mid ≡ letters u ++ (columns ms ++ (feed ∷ (b .1 .0))) = sym e ∙ b .1 .1 ∙ spelling-then u ms (b .1 .0) in
+    h ms (b .1 .0) (subst (λ v. Allowed v ms) (sym (same-tag t u _ _ q)) (b .0), same-after t u _ _ q)
 
-pub tag-and-numbers : (input : List ℕ) (place mid after : ℕ) (t : Tag) (ns : List ℕ) → mid ≡ place + tag-length → drop place input ≡ letters t ++ drop (place + tag-length) input → drop mid input ≡ columns ns ++ (feed ∷ drop after input) → drop place input ≡ spelling t ns ++ drop after input
-tag-and-numbers input place mid after t ns m e q =
-    e ∙ ap (λ x. letters t ++ x) (ap (λ k. drop k input) (sym m) ∙ q) ∙ sym (spelling-then t ns (drop after input))
+pub tag-and-numbers : (bs mid rest : List ℕ) (t : Tag) (ns : List ℕ) → TagFirst bs t mid → mid ≡ columns ns ++ (feed ∷ rest) → bs ≡ spelling t ns ++ rest
+tag-and-numbers bs mid rest t ns e q = e ∙ ap (λ x. letters t ++ x) q ∙ sym (spelling-then t ns rest)
 
 -- what a reader promises where it refuses, and where it accepts
 pub refused-reads : (before after : LineReader) (answer : ℕ × ℕ) (line : Tag × List ℕ) → input-of after ≡ input-of before → answer ≡ answer-of NotALine → line ≡ no-line → after .place ≡ before .place → ((u : Tag) (ms : List ℕ) → Begins (ahead before) u ms → ⊥) → Reads before after answer (line .0) (line .1)

@@ -1,10 +1,12 @@
 // Numbers in columns.
 ghost use mathlib.Core.Path.{_≡_};
+ghost use mathlib.Core.List.{List};
 ghost use Prim.Native.Nat.{ℕ, _+_, _-_, _≤_};
 ghost use lib.ListN.{length, take, drop};
 ghost use Rattle.std.specs.Options.{Cases as BySome};
 ghost use Rattle.std.specs.Orderings.{Decides};
-ghost use Rattle.lines.specs.Spelling.{digit as lastDigit, digit-or-space as spaced, column as columnOf, width, largest, zero-digit};
+ghost use Rattle.lines.specs.Spelling.{digit as lastDigit, digit-or-space as spaced, column as columnOf, width, zero-digit};
+ghost use Rattle.lines.specs.Parts.{ColumnFirst};
 ghost use Rattle.lines.specs.Reading.{worth as worthOf};
 use crate::bytes::same;
 
@@ -74,7 +76,7 @@ fn is_column(input: &[u8], at: usize, number: u32) -> bool
 // The number whose column stands at a place: what its bytes are worth, if they are its column.
 fn number_at(input: &[u8], at: usize) -> Option<u32>
     requires { ⌜ at ≤ length (now input) ⌝ }
-    ensures { λ r. ⌜ BySome r ((n : ℕ) → n ≤ largest → take width (drop at (now (input .entry))) ≡ columnOf n → ⊥) (λ n. (n ≤ largest) × (at + width ≤ length (now (input .entry))) × (take width (drop at (now (input .entry))) ≡ columnOf n)) ⌝ }
+    ensures { λ r. ⌜ BySome r ((n : ℕ) (rest : List ℕ) → ColumnFirst (drop at (now (input .entry))) n rest → ⊥) (λ n. (at + width ≤ length (now (input .entry))) × ColumnFirst (drop at (now (input .entry))) n (drop (at + width) (now (input .entry)))) ⌝ }
 {
     if input.len() - at < COLUMN {
         return None;
@@ -90,7 +92,7 @@ fn number_at(input: &[u8], at: usize) -> Option<u32>
 // Passes the column at a place.
 pub(crate) fn pass_column(input: &[u8], place: &mut usize) -> Option<u32>
     requires { ⌜ now place ≤ length (now input) ⌝ }
-    ensures { λ r. ⌜ BySome r ((n : ℕ) → n ≤ largest → take width (drop (now (place .entry)) (now (input .entry))) ≡ columnOf n → ⊥) (λ n. (n ≤ largest) × (now (place .exit) ≡ now (place .entry) + width) × (now (place .exit) ≤ length (now (input .entry))) × (take width (drop (now (place .entry)) (now (input .entry))) ≡ columnOf n)) ⌝ }
+    ensures { λ r. ⌜ BySome r ((n : ℕ) (rest : List ℕ) → ColumnFirst (drop (now (place .entry)) (now (input .entry))) n rest → ⊥) (λ n. (now (place .exit) ≤ length (now (input .entry))) × ColumnFirst (drop (now (place .entry)) (now (input .entry))) n (drop (now (place .exit)) (now (input .entry)))) ⌝ }
 {
     let Some(number) = number_at(input, *place) else {
         return None;

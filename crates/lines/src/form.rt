@@ -1,11 +1,10 @@
 // The parts of a line, passed one after another. Where a part is not there, the place may be left anywhere.
 ghost use mathlib.Core.Path.{_≡_};
-ghost use mathlib.Core.Bool.{true};
-ghost use mathlib.Core.List.{List, _∷_, _++_};
-ghost use Prim.Native.Nat.{ℕ, _+_, _≤_};
+ghost use mathlib.Core.List.{List};
+ghost use Prim.Native.Nat.{ℕ, _≤_};
 ghost use lib.ListN.{length, drop};
-ghost use Rattle.std.specs.Options.{Cases as BySome, isSome};
-ghost use Rattle.lines.specs.Spelling.{letters, columns, tag-length, feed, Allowed};
+ghost use Rattle.std.specs.Options.{Cases as BySome};
+ghost use Rattle.lines.specs.Parts.{TagFirst, NumbersFirst};
 ghost use Rattle.lines.specs.Reading.{said};
 use crate::column::pass_column;
 use crate::line::Line;
@@ -16,8 +15,7 @@ use crate::tag::Tag;
 // Passes the letters of a tag.
 pub(crate) fn pass_tag(input: &[u8], place: &mut usize) -> Option<Tag>
     requires { ⌜ now place ≤ length (now input) ⌝ }
-    ensures place { λ r. ⌜ (isSome r ≡ true → (now (place .exit) ≡ now (place .entry) + tag-length) × (now (place .exit) ≤ length (now (input .entry)))) ⌝ }
-    ensures tag { λ r. ⌜ BySome r ((t : Tag) (rest : List ℕ) → drop (now (place .entry)) (now (input .entry)) ≡ letters t ++ rest → ⊥) (λ t. drop (now (place .entry)) (now (input .entry)) ≡ letters t ++ drop (now (place .entry) + tag-length) (now (input .entry))) ⌝ }
+    ensures { λ r. ⌜ BySome r ((t : Tag) (rest : List ℕ) → TagFirst (drop (now (place .entry)) (now (input .entry))) t rest → ⊥) (λ t. (now (place .exit) ≤ length (now (input .entry))) × TagFirst (drop (now (place .entry)) (now (input .entry))) t (drop (now (place .exit)) (now (input .entry)))) ⌝ }
 {
     if input.len() - *place < LETTERS {
         return None;
@@ -30,7 +28,7 @@ pub(crate) fn pass_tag(input: &[u8], place: &mut usize) -> Option<Tag>
 // Passes the numbers of a tag and the line feed.
 pub(crate) fn pass_numbers(input: &[u8], place: &mut usize, tag: Tag) -> Option<Line>
     requires { ⌜ now place ≤ length (now input) ⌝ }
-    ensures { λ r. ⌜ BySome r ((ns rest : List ℕ) → Allowed tag ns → drop (now (place .entry)) (now (input .entry)) ≡ columns ns ++ (feed ∷ rest) → ⊥) (λ x. (now (place .exit) ≤ length (now (input .entry))) × (said x .0 ≡ tag) × Allowed tag (said x .1) × (drop (now (place .entry)) (now (input .entry)) ≡ columns (said x .1) ++ (feed ∷ drop (now (place .exit)) (now (input .entry))))) ⌝ }
+    ensures { λ r. ⌜ BySome r ((ns rest : List ℕ) → NumbersFirst (drop (now (place .entry)) (now (input .entry))) tag ns rest → ⊥) (λ x. (now (place .exit) ≤ length (now (input .entry))) × (said x .0 ≡ tag) × NumbersFirst (drop (now (place .entry)) (now (input .entry))) tag (said x .1) (drop (now (place .exit)) (now (input .entry)))) ⌝ }
 {
     let mut numbers = [0; MOST];
     let mut count = 0;

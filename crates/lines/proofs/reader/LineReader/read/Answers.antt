@@ -1,7 +1,5 @@
 -- On each way out the guard leaves the place where the answer says.
-use mathlib.Core.Path.{_≡_, refl, _∙_}
-use Prim.Native.Nat.{_+_}
-use Rattle.lines.specs.Spelling.{tag-length}
+use mathlib.Core.Path.{refl}
 use Rattle.lines.proofs.Lines.{one-spelling}
 use Rattle.lines.proofs.Readings.{refused-reads, accepted-reads, no-tag, no-numbers, tag-and-numbers}
 use Rattle.lines.proofs.reader.LineReader.read.Needs as need
@@ -9,16 +7,15 @@ use Rattle.lines.proofs.reader.LineReader.read.Needs as need
 pub returns-in-rest : need.returns-in-rest
 returns-in-rest c =
     record {
-      reads = refused-reads (c .args .self .now) _ _ _ refl (c .answer .ensures) (c .none .ensures) (c .drop-guard .ensures) (no-tag _ (c .in-rest .ensures tt .tag));
+      reads = refused-reads (c .args .self .now) _ _ _ refl (c .answer .ensures) (c .none .ensures) (c .drop-guard .ensures) (no-tag _ (c .in-rest .ensures tt));
       one = one-spelling;
     }
 
 pub returns-in-rest-pass-numbers : need.returns-in-rest-pass-numbers
 returns-in-rest-pass-numbers c =
-    let mid : c .pass-tag .last .place ≡ c .args .self .now .place + tag-length = c .in-Some .ensures tt .place refl .0 in
     record {
       reads = refused-reads (c .args .self .now) _ _ _ refl (c .answer-in-rest-pass-numbers .ensures) (c .none-in-rest-pass-numbers .ensures) (c .drop-guard-in-rest-pass-numbers .ensures)
-          (no-numbers (c .args .self .now .input .now) (c .args .self .now .place) (c .pass-tag .last .place) (c .in-Some .tag) mid (c .in-Some .ensures tt .tag) (c .in-rest-pass-numbers .ensures tt));
+          (no-numbers _ _ (c .in-Some .tag) (c .in-Some .ensures tt .1) (c .in-rest-pass-numbers .ensures tt));
       one = one-spelling;
     }
 
@@ -26,7 +23,7 @@ pub returns : need.returns
 returns c =
     let n = c .in-Some-pass-numbers .ensures tt in
     record {
-      reads = accepted-reads (c .args .self .now) _ _ (c .pass-numbers .last .place) (c .in-Some .tag) _ _ refl (c .answer-2 .ensures) (c .drop-guard-2 .ensures) (n .1) (n .2)
-          (tag-and-numbers (c .args .self .now .input .now) (c .args .self .now .place) (c .pass-tag .last .place) (c .pass-numbers .last .place) (c .in-Some .tag) _ (c .in-Some .ensures tt .place refl .0) (c .in-Some .ensures tt .tag) (n .3));
+      reads = accepted-reads (c .args .self .now) _ _ (c .pass-numbers .last .place) (c .in-Some .tag) _ _ refl (c .answer-2 .ensures) (c .drop-guard-2 .ensures) (n .1) (n .2 .0)
+          (tag-and-numbers _ _ _ (c .in-Some .tag) _ (c .in-Some .ensures tt .1) (n .2 .1));
       one = one-spelling;
     }

@@ -7,7 +7,6 @@ use native.Mathlib.Omega.{arith}
 use lib.ListN.{length}
 use Rattle.std.proofs.shelf.Tests.{le-leb}
 use Rattle.std.specs.declared.option.Option.{Option}
-use Rattle.std.specs.declared.option.Option.the-variants.{Some}
 use Rattle.systems.specs.Systems.{Meaning}
 use Rattle.systems.specs.Outcomes.{answer-of}
 use Rattle.lines.specs.Spelling.{most, longest, Begins}

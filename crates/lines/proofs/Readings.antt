@@ -2,7 +2,7 @@
 use mathlib.Core.Path.{_≡_, refl, sym, ap, subst, _∙_}
 use mathlib.Core.Bool.{true, false}
 use mathlib.Core.List.{List, [], _∷_, _++_, append-assoc}
-use Prim.Native.Nat.{ℕ, zero, suc, _+_, _-_, _*_, _≤_, _<_}
+use Prim.Native.Nat.{ℕ, zero, suc, _+_, _-_, _≤_, _<_}
 use native.Mathlib.Omega.{arith}
 use lib.Dec.{leb}
 use lib.ListN.{length, take, drop, getD, set, length-append, length-drop}
@@ -19,7 +19,7 @@ use Rattle.lines.specs.Reading.{input-of, ahead, no-line, Reads}
 use Rattle.lines.specs.declared.reader.LineReader.{LineReader}
 use Rattle.lines.specs.declared.tag.Tag.{Tag}
 use Rattle.lines.specs.declared.tag.Tag.the-variants.{Plnt, Chrt, Inpt, Fixd, Verd, Step, Setl, Show, Rsrc, Lead, Task, Offr, Runs, Line}
-use Rattle.lines.proofs.Columns.{columns-push, length-columns}
+use Rattle.lines.proofs.Columns.{columns-push}
 use Rattle.lines.proofs.Lines.{length-letters, spelling-then, same-tag, same-after, not-feed, one-spelling}
 
 -- the tag: too few bytes, or letters that are some tag's or none's

@@ -1,13 +1,13 @@
 -- States as numbers of an OFFR line.
 use mathlib.Core.Path.{_≡_}
 use mathlib.Core.Bool.{true}
-use mathlib.Core.List.{List, _++_}
+use mathlib.Core.List.{List}
 use Prim.Native.Nat.{ℕ, _≤_}
 use lib.ListN.{length}
 use Rattle.std.specs.declared.option.Option.{Option}
 use Rattle.std.specs.declared.option.Option.the-variants.{Some}
 use Rattle.systems.specs.Systems.{Meaning}
-use Rattle.lines.specs.Spelling.{small, most, spelling, Begins}
+use Rattle.lines.specs.Spelling.{small, most, Begins}
 use Rattle.lines.specs.declared.tag.Tag.{Tag}
 use Rattle.lines.specs.declared.tag.Tag.the-variants.{Offr}
 

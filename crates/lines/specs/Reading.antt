@@ -1,7 +1,7 @@
 -- What reading answers, and where it leaves the place.
 use mathlib.Core.Path.{_≡_}
 use mathlib.Core.Bool.{cond, _&&_}
-use mathlib.Core.List.{List, [], _∷_, _++_}
+use mathlib.Core.List.{List, [], _∷_}
 use Prim.Native.Nat.{ℕ, zero, suc, _+_, _-_, _*_, _/_}
 use denote.Ref.{now}
 use lib.Dec.{eqb}

@@ -7,6 +7,10 @@ ghost use Rattle.systems.specs.Outcomes.{answer-of, accepts};
 pub enum Outcome {
     // done; the value is the one that the call promises
     Accepted(usize),
+    // the bytes are not a line
+    NotALine,
+    // a line that may not stand where it stands
+    OutOfTurn,
     // a field is outside its range, or names a step or input that is not entered; fields count from 1
     FieldOutside(u32),
     // a draft takes no more of what was to be added
@@ -37,6 +41,10 @@ pub enum Outcome {
     NotLegal(usize),
     // the choices are a run of this length, and its last state is not bad
     EndsNotBad(usize),
+    // a number to be written has more digits than a column has room for
+    NumberTooLarge,
+    // the buffer to write into is shorter than this, the length needed
+    BufferShort(usize),
 }
 
 impl Outcome {
@@ -56,6 +64,8 @@ impl Outcome {
     {
         match self {
             Outcome::Accepted(value) => (0, value),
+            Outcome::NotALine => (1, 0),
+            Outcome::OutOfTurn => (2, 0),
             Outcome::FieldOutside(field) => (3, field as usize),
             Outcome::NoRoom => (4, 0),
             Outcome::NotEntered(field) => (5, field as usize),
@@ -71,6 +81,8 @@ impl Outcome {
             Outcome::Unsettled(place) => (16, place),
             Outcome::NotLegal(position) => (17, position),
             Outcome::EndsNotBad(length) => (18, length),
+            Outcome::NumberTooLarge => (19, 0),
+            Outcome::BufferShort(length) => (19, length),
         }
     }
 }

@@ -164,7 +164,10 @@ pub(crate) fn run(rt: &LibcRuntime) -> io::Result<()> {
     )?;
     let plant = entered(rt, 2)?;
     session_on(rt, &plant, 3)?;
-    println!(rt, "The same overloaded: to read the sensors takes up to 3 ticks.")?;
+    println!(
+        rt,
+        "The same overloaded: to read the sensors takes up to 3 ticks."
+    )?;
     let overloaded = entered(rt, 3)?;
     // release the first two tasks, release the third, finish the first, finish the second; then the first two
     // are released again, and the third has not run by its deadline

@@ -3,6 +3,7 @@
 mod checking;
 mod controller;
 mod reactor;
+
 use std::io;
 
 fn main(rt: LibcRuntime) -> io::Result<()> {

@@ -4,7 +4,6 @@ use mathlib.Core.Bool.{Bool, true, false, cond}
 use mathlib.Core.List.{List}
 use Prim.Native.Nat.{ℕ, _+_, _<_}
 use lib.ListN.{length}
-use Rattle.std.specs.Orderings.{Decides}
 use Rattle.std.proofs.shelf.Tests.{and-from, lt-ltb, ltb-true, both-ways, not-from-false, cond-true, cond-false}
 use Rattle.plants.specs.Bits.{bit}
 use Rattle.plants.specs.Layouts.{task-at}
@@ -21,16 +20,12 @@ use Rattle.plants.proofs.Each.{made-each}
 use Rattle.plants.proofs.Steps.{all-from}
 use Rattle.plants.proofs.Ticks.{Legal, legal-parts, released-made, readied-made, grown-made, finished-made}
 use Rattle.plants.proofs.PlantLaws.{of-records}
-use Rattle.plants.proofs.Decided.{flag-false, fits-decides, bad-decides, may-decides, must-decides, comes-decides, runs-decides, grown-from, grown-is, finish-decides, worn-decides}
+use Rattle.plants.proofs.Decided.{flag-false, by-flag, fits-decides, bad-decides, may-decides, must-decides, comes-decides, runs-decides, grown-from, grown-is, finish-decides, worn-decides}
 
 -- a bit is set or not
 by-bit : (b : Bool) (P : Bool → Type 0) → (b ≡ true → P true) → (b ≡ false → P false) → P b
 by-bit true P p q = p refl
 by-bit false P p q = q refl
-
-by-flag : {P : Type 0} (b : Bool) → Decides b P → (x y z : Record) → (P → x ≡ y) → ((P → ⊥) → x ≡ z) → x ≡ cond b y z
-by-flag true d x y z p q = p (d .0 refl)
-by-flag false d x y z p q = q (λ h. both-ways false refl (d .1 h))
 
 -- From a legal choice to the rules
 
@@ -58,7 +53,7 @@ module _ (order : Order) (l : Layout) (c : ℕ) (s : PlantState) (v : Valid l) (
   rule-1 : Releases l c s held
   unfolding held
   rule-1 =
-      let m = released-made l v c (s .records) in
+      let m = released-made l v (s .records) c in
       record {
         releases = λ k lt b. (
           may-decides (task-at l k) (record-at s k .phase) (record-at s k .since) .0 (release-bit k lt true b),
@@ -74,7 +69,7 @@ module _ (order : Order) (l : Layout) (c : ℕ) (s : PlantState) (v : Valid l) (
   rule-2 : Readies l held (claiming-state l c s)
   unfolding held
   rule-2 =
-      let m = readied-made l v c (after-releases l c (s .records)) in
+      let m = readied-made l v (after-releases l c (s .records)) in
       record {
         readies = λ k lt r. m .entered k lt ∙ cond-true _ _ _ (comes-decides l held k .1 r);
         leaves = λ k lt n. m .entered k lt ∙ cond-false _ _ _ (flag-false _ _ (comes-decides l held k) n);
@@ -84,7 +79,7 @@ module _ (order : Order) (l : Layout) (c : ℕ) (s : PlantState) (v : Valid l) (
   rule-4 : Grows order l (claiming-state l c s) grown
   unfolding grown
   rule-4 =
-      let m = grown-made l v c (claiming l c (s .records)) order in
+      let m = grown-made l v (claiming l c (s .records)) order in
       record {
         grows = λ k lt. grown-from _ _ (runs-decides order l (claiming-state l c s) k) _ _ (m .entered k lt);
         others = record { long = m .long; stay = m .others };
@@ -92,7 +87,7 @@ module _ (order : Order) (l : Layout) (c : ℕ) (s : PlantState) (v : Valid l) (
 
   run-is : (k : ℕ) → k < l .count → record-at grown k .run ≡ grown-by (task-runs order l (claiming l c (s .records)) k) (at (claiming l c (s .records)) k) .run
   unfolding grown
-  run-is k lt = ap (λ (r : Record). r .run) (grown-made l v c (claiming l c (s .records)) order .entered k lt)
+  run-is k lt = ap (λ (r : Record). r .run) (grown-made l v (claiming l c (s .records)) order .entered k lt)
 
   finish-bit : (k : ℕ) → k < l .count → (b : Bool) → bit c (l .count + k) ≡ b
       → finish-in (task-at l k) (task-runs order l (claiming l c (s .records)) k) (record-at grown k .run) b ≡ true
@@ -106,7 +101,7 @@ module _ (order : Order) (l : Layout) (c : ℕ) (s : PlantState) (v : Valid l) (
   unfolding grown next
   rule-5 =
       let ready = claiming-state l c s in
-      let m = finished-made l v c (after-growth order l (claiming l c (s .records))) in
+      let m = finished-made l v (after-growth order l (claiming l c (s .records))) c in
       record {
         finishes = λ k lt b.
             let f = finish-decides (task-at l k) (Runs order l ready k) (task-runs order l (ready .records) k) (record-at grown k .run) (runs-decides order l ready k) .0 (finish-bit k lt true b) in

@@ -21,7 +21,7 @@ use Rattle.plants.specs.declared.state.Record.{Record}
 use Rattle.plants.specs.declared.state.PlantState.{PlantState}
 use Rattle.plants.specs.declared.state.Phase.{Phase}
 use Rattle.plants.specs.declared.state.Phase.the-variants.{Before, Done, Held, Ready}
-use Rattle.plants.proofs.Same.{record-same}
+use Rattle.plants.proofs.Same.{rec, record-same}
 use Rattle.plants.proofs.Steps.{all-decides, any-decides, all-at, all-from}
 
 -- a test that decides what does not hold is false
@@ -65,9 +65,6 @@ not-before : (p : Phase) → is-before p ≡ false → p ≡ Before → ⊥
 not-before p f e = both-ways (is-before p) f (ap is-before e)
 
 -- Which records fit
-
-abbrev rec : Phase → ℕ → ℕ → ℕ → Record
-rec phase since run waited = record { phase = phase; since = since; run = run; waited = waited }
 
 abbrev Fits-decides : Task → Phase → Type 0
 Fits-decides t p = (since run waited : ℕ) → Decides (fits-in t p since run waited) (Fits-task t (rec p since run waited))
@@ -245,7 +242,7 @@ grown-from R b d r r′ e =
       rests = λ n. run ∙ cond-false _ _ _ (flag-false R b d n);
     }
 
-by-flag : {A P : Type 0} (b : Bool) → Decides b P → (x y z : A) → (P → x ≡ y) → ((P → ⊥) → x ≡ z) → x ≡ cond b y z
+pub by-flag : {A P : Type 0} (b : Bool) → Decides b P → (x y z : A) → (P → x ≡ y) → ((P → ⊥) → x ≡ z) → x ≡ cond b y z
 by-flag true d x y z p q = p (d .0 refl)
 by-flag false d x y z p q = q (λ h. false≢true (d .1 h))
 

@@ -77,7 +77,7 @@ module _ (order : Order) (l : Layout) (rs : List Record) (v : Valid l) where
   -- the finish bits do not change which tasks are released
   same-releases : after-releases l choice rs ≡ after-releases l (choice-of releases (l .count)) rs
   same-releases =
-      let m = released-made l v choice rs in
+      let m = released-made l v rs choice in
       made-each (λ i r. cond (bit (choice-of releases (l .count)) i) released r) rs (l .count) (after-releases l choice rs) (record {
         long = m .long;
         entered = λ k lt. m .entered k lt ∙ ap (λ b. cond b released (at rs k)) (release-bit k lt ∙ sym (choice-bit releases (l .count) k lt));

@@ -20,11 +20,9 @@ use Rattle.plants.specs.declared.state.Record.{Record}
 use Rattle.plants.specs.declared.state.Phase.{Phase}
 use Rattle.plants.specs.declared.state.Phase.the-variants.{Before, Done, Held, Ready}
 use Rattle.plants.proofs.Entered.{Valid}
+use Rattle.plants.proofs.Same.{rec}
 use Rattle.plants.proofs.Steps.{all-at, all-from, any-stops}
 use Rattle.plants.proofs.Ticks.{Legal, legal-parts, within, fits-one, released-made, readied-made, grown-made, finished-made}
-
-abbrev rec : Phase → ℕ → ℕ → ℕ → Record
-rec phase since run waited = record { phase = phase; since = since; run = run; waited = waited }
 
 -- a record that fits and that one tick leaves fitting
 abbrev room-in : Task → Phase → ℕ → ℕ → ℕ → Bool
@@ -136,7 +134,7 @@ module _ (order : Order) (l : Layout) (c : ℕ) (rs : List Record) (v : Valid l)
   room-1 : (k : ℕ) → k < l .count → room (task-at l k) (at (after-releases l c rs) k) ≡ true
   unfolding release-obeys
   room-1 k lt =
-      ap (room (task-at l k)) (released-made l v c rs .entered k lt)
+      ap (room (task-at l k)) (released-made l v rs c .entered k lt)
       ∙ after-release (task-at l k) (at rs k) (bit c k) (within l v k lt .ranges) (fits-one l v rs (ok .fitting) k lt) (not-late k lt) (ok .releases k lt)
 
   was-held : (ss : List Record) (k : ℕ) → comes-ready l ss k ≡ true → is-held (at ss k .phase) ≡ true
@@ -147,7 +145,7 @@ module _ (order : Order) (l : Layout) (c : ℕ) (rs : List Record) (v : Valid l)
   room-2 k lt =
       let ss = after-releases l c rs in
       let r = at ss k in
-      ap (room (task-at l k)) (readied-made l v c ss .entered k lt)
+      ap (room (task-at l k)) (readied-made l v ss .entered k lt)
       ∙ after-ready (task-at l k) (r .phase) (r .since) (r .run) (r .waited) (comes-ready l ss k) (within l v k lt .ranges) (room-1 k lt) (was-held ss k)
 
   was-ready : (ss : List Record) (k : ℕ) → task-runs order l ss k ≡ true → is-ready (at ss k .phase) ≡ true
@@ -157,8 +155,8 @@ module _ (order : Order) (l : Layout) (c : ℕ) (rs : List Record) (v : Valid l)
   ticked-at : (k : ℕ) → k < l .count
       → at (ticked order l c rs) k ≡ cond (bit c (l .count + k)) (finished (grown-by (task-runs order l (claiming l c rs) k) (at (claiming l c rs) k))) (grown-by (task-runs order l (claiming l c rs) k) (at (claiming l c rs) k))
   ticked-at k lt =
-      finished-made l v c (after-growth order l (claiming l c rs)) .entered k lt
-      ∙ ap (λ r. cond (bit c (l .count + k)) (finished r) r) (grown-made l v c (claiming l c rs) order .entered k lt)
+      finished-made l v (after-growth order l (claiming l c rs)) c .entered k lt
+      ∙ ap (λ r. cond (bit c (l .count + k)) (finished r) r) (grown-made l v (claiming l c rs) order .entered k lt)
 
   entered-fits : (k : ℕ) → k < l .count → fits-task (task-at l k) (at (ticked order l c rs) k) ≡ true
   unfolding finish-obeys
@@ -169,8 +167,8 @@ module _ (order : Order) (l : Layout) (c : ℕ) (rs : List Record) (v : Valid l)
 
   past : (k : ℕ) → k < most-tasks → l .count ≤ k → at (ticked order l c rs) k ≡ at rs k
   past k lt le =
-      finished-made l v c (after-growth order l (claiming l c rs)) .others k lt le ∙ grown-made l v c (claiming l c rs) order .others k lt le
-      ∙ readied-made l v c (after-releases l c rs) .others k lt le ∙ released-made l v c rs .others k lt le
+      finished-made l v (after-growth order l (claiming l c rs)) c .others k lt le ∙ grown-made l v (claiming l c rs) order .others k lt le
+      ∙ readied-made l v (after-releases l c rs) .others k lt le ∙ released-made l v rs c .others k lt le
 
   blank-past : (k : ℕ) → k < most-tasks → l .count ≤ k → is-blank (at rs k) ≡ true
   unfolding fits-at

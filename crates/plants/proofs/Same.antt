@@ -27,8 +27,11 @@ phase-back Done = refl
 phase-back Held = refl
 phase-back Ready = refl
 
-pub record-same : (p q : Phase) (a b c d e f : ℕ) → p ≡ q → a ≡ b → c ≡ d → e ≡ f
-    → _≡_ {A = Record} (record { phase = p; since = a; run = c; waited = e }) (record { phase = q; since = b; run = d; waited = f })
+-- a record by its four fields
+abbrev pub rec : Phase → ℕ → ℕ → ℕ → Record
+rec phase since run waited = record { phase = phase; since = since; run = run; waited = waited }
+
+pub record-same : (p q : Phase) (a b c d e f : ℕ) → p ≡ q → a ≡ b → c ≡ d → e ≡ f → rec p a c e ≡ rec q b d f
 record-same p q a b c d e f h i j k = cc
 
 same-record-decides : (x y : Record) → Decides (same-record x y) (x ≡ y)

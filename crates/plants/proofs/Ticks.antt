@@ -36,15 +36,15 @@ within l v i lt =
     }
 
 -- the records of the entered tasks after each rule
-module _ (l : Layout) (v : Valid l) (c : ℕ) (rs : List Record) where
-  pub released-made : Made (l .count) (λ i r. cond (bit c i) released r) rs (after-releases l c rs)
-  released-made = each-made _ rs (l .count) (v .tasks-few)
+module _ (l : Layout) (v : Valid l) (rs : List Record) where
+  pub released-made : (c : ℕ) → Made (l .count) (λ i r. cond (bit c i) released r) rs (after-releases l c rs)
+  released-made c = each-made _ rs (l .count) (v .tasks-few)
 
   pub readied-made : Made (l .count) (λ i r. cond (comes-ready l rs i) (readied r) r) rs (after-readying l rs)
   readied-made = each-made _ rs (l .count) (v .tasks-few)
 
-  pub finished-made : Made (l .count) (λ i r. cond (bit c (l .count + i)) (finished r) r) rs (after-finishes l c rs)
-  finished-made = each-made _ rs (l .count) (v .tasks-few)
+  pub finished-made : (c : ℕ) → Made (l .count) (λ i r. cond (bit c (l .count + i)) (finished r) r) rs (after-finishes l c rs)
+  finished-made c = each-made _ rs (l .count) (v .tasks-few)
 
   pub grown-made : (order : Order) → Made (l .count) (λ i r. grown-by (task-runs order l rs i) r) rs (after-growth order l rs)
   grown-made order = each-made _ rs (l .count) (v .tasks-few)
@@ -95,8 +95,8 @@ low-claiming l v c rs f k lt =
     let ss = after-releases l c rs in
     let n = low-in (task-at l k) (r .phase) (r .since) (r .run) (r .waited) (within l v k lt .ranges) (fits-one l v rs f k lt) in
     let one : Low (at ss k) =
-    subst⁻¹ Low (released-made l v c rs .entered k lt) (low-cond (bit c k) released r low-released (record { since = n .0; run = n .1; waited = n .2 })) in
-    subst⁻¹ Low (readied-made l v c ss .entered k lt) (low-cond (comes-ready l ss k) (readied (at ss k)) (at ss k) (low-readied (at ss k) one) one)
+    subst⁻¹ Low (released-made l v rs c .entered k lt) (low-cond (bit c k) released r low-released (record { since = n .0; run = n .1; waited = n .2 })) in
+    subst⁻¹ Low (readied-made l v ss .entered k lt) (low-cond (comes-ready l ss k) (readied (at ss k)) (at ss k) (low-readied (at ss k) one) one)
 
 -- what a legal choice is
 pub record Legal (order : Order) (l : Layout) (c : ℕ) (rs : List Record) : Type 0 where

@@ -45,7 +45,7 @@ impl DraftPlant {
     {
         let outcome = resource_outcome(&self.layout, policy, preempt);
         if let Outcome::Accepted(_) = outcome {
-            self.layout = add_resource(self.layout, Resource { policy, preempt });
+            self.layout = with_resource(self.layout, Resource { policy, preempt });
         }
         outcome.answer()
     }
@@ -57,7 +57,7 @@ impl DraftPlant {
     {
         let outcome = task_outcome(&self.layout, &task);
         if let Outcome::Accepted(_) = outcome {
-            self.layout = add_task(self.layout, &task);
+            self.layout = with_task(self.layout, &task);
         }
         outcome.answer()
     }
@@ -126,7 +126,7 @@ fn resource_outcome(layout: &Layout, policy: u32, preempt: u32) -> Outcome
     }
 }
 
-fn add_resource(mut layout: Layout, resource: Resource) -> Layout
+fn with_resource(mut layout: Layout, resource: Resource) -> Layout
     requires { ⌜ layout .«resource_count» < most-resources ⌝ }
     ensures { λ r. ⌜ r ≡ with-resource layout resource ⌝ }
 {
@@ -151,9 +151,9 @@ fn task_outcome(layout: &Layout, task: &TaskEntry) -> Outcome
     if task.needs >> layout.count > 0 {
         return Outcome::NotEntered(NEEDS_FIELD);
     }
-    let unlike = first_unlike(layout, task);
-    if unlike < layout.count {
-        Outcome::GapsUnlike(unlike)
+    let needed = first_unlike(layout, task);
+    if needed < layout.count {
+        Outcome::GapsUnlike(needed)
     } else {
         Outcome::Accepted(layout.count)
     }
@@ -206,7 +206,7 @@ fn is_unlike(layout: &Layout, task: &TaskEntry, j: usize) -> bool
         && !(task.greatest == gap && needed.least == gap && needed.greatest == gap)
 }
 
-fn add_task(mut layout: Layout, task: &TaskEntry) -> Layout
+fn with_task(mut layout: Layout, task: &TaskEntry) -> Layout
     requires { ⌜ layout .count < most-tasks ⌝ ∗ ⌜ now task .class < classes ⌝ }
     ensures { λ r. ⌜ r ≡ with-task layout (entered (now (task .entry))) ⌝ }
 {

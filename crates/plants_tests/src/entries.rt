@@ -61,38 +61,56 @@ fn ranges() -> Result<(), Fail> {
 fn needs() -> Result<(), Fail> {
     let mut draft = DraftPlant::new();
     let _ = draft.add_resource(0, 0);
-    check_eq(draft.add_task(task([0, 4, 4, 1, 1, 4, 0, 0, 0])), (0, 0))?;
-    check_eq(draft.add_task(task([0, 4, 5, 1, 1, 4, 0, 0, 0])), (0, 1))?;
-    // a task that is not entered, before gaps
-    check_eq(draft.add_task(task([0, 4, 5, 1, 1, 4, 0, 0, 5])), (5, 9))?;
-    // the entry's own gaps, and those of task 1, are not one number
-    check_eq(draft.add_task(task([0, 4, 5, 1, 1, 4, 0, 0, 3])), (6, 0))?;
-    check_eq(draft.add_task(task([0, 5, 5, 1, 1, 4, 0, 0, 3])), (6, 0))?;
-    check_eq(draft.add_task(task([0, 4, 4, 1, 1, 4, 0, 0, 3])), (6, 1))?;
-    check_eq(draft.add_task(task([0, 4, 4, 1, 1, 4, 0, 0, 2])), (6, 1))?;
-    check_eq(draft.add_task(task([0, 4, 4, 1, 1, 4, 0, 0, 1])), (0, 2))?;
-    check_eq(draft.add_task(task([0, 4, 4, 1, 1, 4, 0, 0, 5])), (0, 3))
+    let rows = [
+        ([0, 4, 4, 1, 1, 4, 0, 0, 0], (0, 0)),
+        ([0, 4, 5, 1, 1, 4, 0, 0, 0], (0, 1)),
+        // a task that is not entered, before gaps
+        ([0, 4, 5, 1, 1, 4, 0, 0, 5], (5, 9)),
+        // the entry's own gaps are not one number, or not that of task 0, or not that of task 1
+        ([0, 4, 5, 1, 1, 4, 0, 0, 3], (6, 0)),
+        ([0, 5, 5, 1, 1, 4, 0, 0, 3], (6, 0)),
+        ([0, 4, 4, 1, 1, 4, 0, 0, 3], (6, 1)),
+        ([0, 4, 4, 1, 1, 4, 0, 0, 2], (6, 1)),
+        ([0, 4, 4, 1, 1, 4, 0, 0, 1], (0, 2)),
+        ([0, 4, 4, 1, 1, 4, 0, 0, 5], (0, 3)),
+    ];
+    for (fields, answer) in rows {
+        check_eq(draft.add_task(task(fields)), answer)?;
+    }
+    Ok(())
 }
 
 #[test]
-fn resources_and_room() -> Result<(), Fail> {
+fn resources() -> Result<(), Fail> {
     let mut draft = DraftPlant::new();
-    check_eq(draft.add_resource(3, 0), (3, 1))?;
-    check_eq(draft.add_resource(0, 2), (3, 2))?;
-    check_eq(draft.add_resource(3, 2), (3, 1))?;
-    check_eq(draft.add_resource(2, 1), (0, 0))?;
-    check_eq(draft.add_resource(1, 0), (0, 1))?;
-    check_eq(draft.add_resource(0, 0), (0, 2))?;
-    check_eq(draft.add_resource(0, 1), (0, 3))?;
-    check_eq(draft.add_resource(0, 0), (4, 0))?;
-    check_eq(draft.add_resource(9, 9), (4, 0))?;
+    let rows = [
+        (3, 0, (3, 1)),
+        (0, 2, (3, 2)),
+        (3, 2, (3, 1)),
+        (2, 1, (0, 0)),
+        (1, 0, (0, 1)),
+        (0, 0, (0, 2)),
+        (0, 1, (0, 3)),
+        (0, 0, (4, 0)),
+        (9, 9, (4, 0)),
+    ];
+    for (policy, preempt, answer) in rows {
+        check_eq(draft.add_resource(policy, preempt), answer)?;
+    }
+    Ok(())
+}
+
+#[test]
+fn room() -> Result<(), Fail> {
+    let mut draft = DraftPlant::new();
+    let _ = draft.add_resource(0, 0);
     for number in 0..8 {
         check_eq(
-            draft.add_task(task([0, 1, 1, 1, 1, 1, 0, 3, 0])),
+            draft.add_task(task([0, 1, 1, 1, 1, 1, 0, 0, 0])),
             (0, number),
         )?;
     }
-    check_eq(draft.add_task(task([0, 1, 1, 1, 1, 1, 0, 3, 0])), (4, 0))?;
+    check_eq(draft.add_task(task([0, 1, 1, 1, 1, 1, 0, 0, 0])), (4, 0))?;
     check_eq(
         draft.add_task(task([256, 0, 0, 0, 0, 0, 99, 9, 999])),
         (4, 0),

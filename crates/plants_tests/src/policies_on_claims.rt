@@ -25,41 +25,49 @@ fn asked(policy: u32, preempt: u32, a: Claim, b: Claim) -> (bool, bool) {
 }
 
 #[test]
-fn known_numbers() -> Result<(), Fail> {
+fn numbers() -> Result<(), Fail> {
     let a = claim(0, 50, 3, 9, 0);
     let b = claim(1, 80, 2, 5, 0);
-    check_eq(asked(0, 1, a, b), (true, false))?;
-    check_eq(asked(1, 1, a, b), (false, true))?;
-    check_eq(asked(2, 1, a, b), (false, true))?;
-    // on a tie the lower number, and of equal numbers neither
-    check_eq(asked(1, 1, claim(4, 80, 0, 1, 0), b), (false, true))?;
-    check_eq(asked(1, 1, claim(1, 99, 9, 1, 9), b), (false, false))?;
-    check_eq(asked(1, 0, claim(1, 99, 9, 1, 9), b), (false, false))?;
-    // one that has begun goes first unless the resource is preemptive
+    let tied = claim(4, 80, 0, 1, 0);
+    let same = claim(1, 99, 9, 1, 9);
     let begun = claim(0, 50, 3, 9, 1);
-    check_eq(asked(1, 0, begun, b), (true, false))?;
-    check_eq(asked(1, 1, begun, b), (false, true))
-}
-
-#[test]
-fn unknown_numbers() -> Result<(), Fail> {
-    let a = claim(0, 50, 3, 9, 0);
-    let b = claim(1, 80, 2, 5, 0);
-    // an unknown policy is FIFO
-    check_eq(asked(3, 1, a, b), (true, false))?;
-    check_eq(asked(4294967295, 1, b, a), (false, true))?;
-    // an unknown preempt number is not preemptive
-    let begun = claim(1, 80, 2, 5, 1);
-    check_eq(asked(0, 2, a, begun), (false, true))?;
-    check_eq(asked(9, 9, a, begun), (false, true))
+    let later = claim(1, 80, 2, 5, 1);
+    let rows = [
+        (0, 1, a, b, (true, false)),
+        (1, 1, a, b, (false, true)),
+        (2, 1, a, b, (false, true)),
+        // on a tie the lower number, and of equal numbers neither
+        (1, 1, tied, b, (false, true)),
+        (1, 1, same, b, (false, false)),
+        (1, 0, same, b, (false, false)),
+        // one that has begun goes first unless the resource is preemptive
+        (1, 0, begun, b, (true, false)),
+        (1, 1, begun, b, (false, true)),
+        // an unknown policy is FIFO
+        (3, 1, a, b, (true, false)),
+        (4294967295, 1, b, a, (false, true)),
+        // an unknown preempt number is not preemptive
+        (0, 2, a, later, (false, true)),
+        (9, 9, a, later, (false, true)),
+    ];
+    for (policy, preempt, one, other, answer) in rows {
+        check_eq(asked(policy, preempt, one, other), answer)?;
+    }
+    Ok(())
 }
 
 #[test]
 fn classes() -> Result<(), Fail> {
-    check_eq(priority(0), Some(250))?;
-    check_eq(priority(7), Some(180))?;
-    check_eq(priority(8), Some(150))?;
-    check_eq(priority(16), Some(80))?;
-    check_eq(priority(23), Some(45))?;
-    check_eq(priority(24), None)
+    let rows = [
+        (0, Some(250)),
+        (7, Some(180)),
+        (8, Some(150)),
+        (16, Some(80)),
+        (23, Some(45)),
+        (24, None),
+    ];
+    for (class, answer) in rows {
+        check_eq(priority(class), answer)?;
+    }
+    Ok(())
 }

@@ -56,13 +56,14 @@ fn eight_tasks() -> Result<(), Fail> {
     let first = plant.first();
     // every task is released, and each of four running ones finishes or not
     check_eq(legals(&plant, &first), 16)?;
-    check(!plant.is_legal(&first, 0))?;
-    check(plant.is_legal(&first, 255))?;
-    check(plant.is_legal(&first, 255 + 15 * 256))?;
-    check(!plant.is_legal(&first, 255 + 16 * 256))?;
-    check_eq(plant.running(&first, 255, 3), Some(3))?;
-    check_eq(plant.running(&first, 0, 3), None)?;
-    check_eq(plant.running(&first, 255, 4), None)?;
+    let rows = [(0, false), (255, true), (4095, true), (4351, false)];
+    for (choice, legal) in rows {
+        check_eq(plant.is_legal(&first, choice), legal)?;
+    }
+    let rows = [(255, 3, Some(3)), (0, 3, None), (255, 4, None)];
+    for (choice, resource, task) in rows {
+        check_eq(plant.running(&first, choice, resource), task)?;
+    }
     let next = plant.next(&first, 255 + 256);
     check(plant.fits(&next))?;
     check_eq(numbers(next.records[0]), (1, 1, 0, 0))?;

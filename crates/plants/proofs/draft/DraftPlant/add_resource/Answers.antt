@@ -10,4 +10,4 @@ ghost-self c =
     let l = c .args .self .now .layout in
     let v = valid-parts l (c .args .self .now .valid) in
     let room = resource-room l (c .args .policy) (c .args .preempt) v (ap accepts (sym (c .in-Accepted .ensures tt))) in
-    (ap valid (c .add-resource-self .ensures) ∙ valid-with-resource l _ v room, tt)
+    (ap valid (c .with-resource-self .ensures) ∙ valid-with-resource l _ v room, tt)

@@ -9,8 +9,8 @@ use Rattle.plants.specs.Layouts.{valid}
 use Rattle.plants.proofs.Entered.{valid-parts, admitted, valid-with-task}
 use Rattle.plants.proofs.draft.DraftPlant.add_task.Needs as need
 
-pub add-task-self-requires : need.add-task-self-requires
-add-task-self-requires c κs =
+pub with-task-self-requires : need.with-task-self-requires
+with-task-self-requires c κs =
     let l = c .args .self .now .layout in
     let v = valid-parts l (c .args .self .now .valid) in
     let ok = admitted l (c .args .task) (ap accepts (sym (c .in-Accepted .ensures tt))) in
@@ -22,4 +22,4 @@ ghost-self c =
     let v = valid-parts l (c .args .self .now .valid) in
     let ok = admitted l (c .args .task) (ap accepts (sym (c .in-Accepted .ensures tt))) in
     let long : length (l .tasks) ≡ most-tasks = search needs in
-    (ap valid (c .add-task-self .ensures) ∙ valid-with-task l (c .args .task) long v ok, tt)
+    (ap valid (c .with-task-self .ensures) ∙ valid-with-task l (c .args .task) long v ok, tt)

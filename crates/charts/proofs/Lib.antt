@@ -1,1 +1,2 @@
 pub mod Valid
+pub mod Numbered

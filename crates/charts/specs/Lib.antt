@@ -1,2 +1,3 @@
 pub mod Entries
 pub mod Charts
+pub mod Numbers

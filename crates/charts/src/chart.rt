@@ -3,6 +3,7 @@ ghost use Prim.Native.Nat.{_<_, _≤_};
 ghost use Rattle.charts.specs.Entries.{most-steps, most-inputs, Inside};
 use crate::entries::Entries;
 
+pub mod logging;
 pub mod replies;
 
 // Entries of a draft that nothing can be added to any more.

@@ -22,7 +22,8 @@ use Rattle.plants.specs.declared.state.PlantState.{PlantState}
 use Rattle.plants.specs.declared.state.Phase.{Phase}
 use Rattle.plants.specs.declared.state.Phase.the-variants.{Before, Done, Held, Ready}
 use Rattle.plants.proofs.Same.{rec, record-same}
-use Rattle.plants.proofs.Steps.{all-decides, any-decides, all-at, all-from}
+use Rattle.plants.proofs.Steps.{all-decides, any-decides}
+use Rattle.plants.proofs.Fitting.{fits-parts, fits-from}
 
 -- a test that decides what does not hold is false
 pub flag-false : (P : Type 0) (b : Bool) → Decides b P → (P → ⊥) → b ≡ false
@@ -133,8 +134,9 @@ pub fits-decides : (l : Layout) (s : PlantState) → l .count ≤ most-tasks →
 unfolding fits-at
 fits-decides l s few =
     let rs = s .records in
-    let test : (k : ℕ) → k < most-tasks → state-fits l rs ≡ true → fits-at l rs k ≡ true = λ k lt h. all-at (fits-at l rs) most-tasks h k lt in (
+    let test : (k : ℕ) → k < most-tasks → state-fits l rs ≡ true → fits-at l rs k ≡ true = λ k lt h. fits-parts l rs h .each-fits k lt in (
       (λ h. record {
+        long = fits-parts l rs h .long;
         entered = λ k lt.
             let r = at rs k in
             fits-phase (task-at l k) (r .phase) (r .since) (r .run) (r .waited) .0 (sym (cond-true _ _ _ (lt-ltb k (l .count) lt)) ∙ test k (omega arith) h);
@@ -142,13 +144,15 @@ fits-decides l s few =
             let r = at rs k in blank-parts (r .phase) (r .since) (r .run) (r .waited) (sym (cond-false _ _ _ (le-ltb k (l .count) le)) ∙ test k lt h);
       }),
       λ f.
-          all-from (fits-at l rs) most-tasks
-          (λ k lt.
-          ⊎-elim
-          (λ (e : k < l .count).
-          let r = at rs k in cond-true _ _ _ (lt-ltb k (l .count) e) ∙ fits-phase (task-at l k) (r .phase) (r .since) (r .run) (r .waited) .1 (f .entered k e))
-          (λ (e : l .count ≤ k). cond-false _ _ _ (le-ltb k (l .count) e) ∙ ap is-blank (f .others k lt e))
-          (cases-lt k (l .count))),
+          fits-from l rs (record {
+            long = f .long;
+            each-fits = λ k lt.
+                ⊎-elim
+                (λ (e : k < l .count).
+                let r = at rs k in cond-true _ _ _ (lt-ltb k (l .count) e) ∙ fits-phase (task-at l k) (r .phase) (r .since) (r .run) (r .waited) .1 (f .entered k e))
+                (λ (e : l .count ≤ k). cond-false _ _ _ (le-ltb k (l .count) e) ∙ ap is-blank (f .others k lt e))
+                (cases-lt k (l .count));
+          }),
     )
 
 pub bad-decides : (l : Layout) (s : PlantState) → Decides (state-bad l (s .records)) (Bad l s)

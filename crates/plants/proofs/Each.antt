@@ -1,13 +1,14 @@
 -- A loop that makes each task's record anew.
-use mathlib.Core.Path.{_≡_, sym, _∙_}
+use mathlib.Core.Path.{_≡_, ap, sym, _∙_}
 use mathlib.Core.Bool.{cond}
-use mathlib.Core.Logic.{⊎-elim}
+use mathlib.Core.Logic.{_≢_, ⊎-elim}
 use mathlib.Core.List.{List}
-use Prim.Native.Nat.{ℕ, _<_, _≤_}
+use Prim.Native.Nat.{ℕ, _+_, _<_, _≤_}
 use native.Mathlib.Omega.{arith}
 use lib.Dec.{ltb}
-use lib.ListN.{length}
-use Rattle.std.proofs.shelf.Tests.{cases-lt, cond-true, cond-false, lt-ltb, le-ltb}
+use lib.ListN.{length, set, length-set}
+use lib.Seq.{getD-set-same, getD-set-other}
+use Rattle.std.proofs.shelf.Tests.{cases-lt, cases-eq, cond-true, cond-false, lt-ltb, le-ltb}
 use Rattle.std.proofs.shelf.Counted.{fill-by-all, getD-map-counting, length-map-counting}
 use Rattle.plants.specs.Limits.{most-tasks}
 use Rattle.plants.specs.Records.{at, each, blank}
@@ -47,6 +48,18 @@ module _ (f : ℕ → Record → Record) (rs : List Record) where
     others = λ k lt past.
         getD-map-counting (λ i. cond (ltb i n) (f i (at rs i)) (at rs i)) 0 most-tasks k k blank lt (omega arith)
         ∙ cond-false _ _ _ (le-ltb k n past);
+  }
+
+  -- one record more
+  pub upto-more : (i : ℕ) (xs : List Record) (r : Record) → i < most-tasks → Upto f rs i xs → r ≡ f i (at rs i) → Upto f rs (i + 1) (set xs i r)
+  upto-more i xs r lt u e = record {
+    long = length-set xs i r ∙ u .long;
+    below = λ k h.
+        ⊎-elim
+        (λ (same : k ≡ i). ap (at (set xs i r)) same ∙ getD-set-same xs i r blank (omega (arith, u .long)) ∙ e ∙ ap (λ j. f j (at rs j)) (sym same))
+        (λ (ne : k ≡ i → ⊥). getD-set-other xs i k r blank ne ∙ u .below k (omega arith))
+        (cases-eq k i);
+    rest = λ k h. let ne : k ≢ i = omega arith in getD-set-other xs i k r blank ne ∙ u .rest k (omega arith);
   }
 
   pub upto-all : (n i : ℕ) (xs : List Record) → i ≡ n → Upto f rs i xs → xs ≡ each n f rs

@@ -1,4 +1,5 @@
 pub mod Steps
+pub mod Fitting
 pub mod Entered
 pub mod Each
 pub mod Same
@@ -12,3 +13,4 @@ pub mod Agreement
 pub mod Firsts
 pub mod OneRuns
 pub mod Chained
+pub mod Numbered

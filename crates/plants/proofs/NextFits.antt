@@ -21,7 +21,8 @@ use Rattle.plants.specs.declared.state.Phase.{Phase}
 use Rattle.plants.specs.declared.state.Phase.the-variants.{Before, Done, Held, Ready}
 use Rattle.plants.proofs.Entered.{Valid}
 use Rattle.plants.proofs.Same.{rec}
-use Rattle.plants.proofs.Steps.{all-at, all-from, any-stops}
+use Rattle.plants.proofs.Steps.{any-stops}
+use Rattle.plants.proofs.Fitting.{fits-parts, fits-from}
 use Rattle.plants.proofs.Ticks.{Legal, legal-parts, within, fits-one, released-made, readied-made, grown-made, finished-made}
 
 -- a record that fits and that one tick leaves fitting
@@ -172,7 +173,7 @@ module _ (order : Order) (l : Layout) (c : ℕ) (rs : List Record) (v : Valid l)
 
   blank-past : (k : ℕ) → k < most-tasks → l .count ≤ k → is-blank (at rs k) ≡ true
   unfolding fits-at
-  blank-past k lt le = sym (cond-false _ _ _ (le-ltb k (l .count) le)) ∙ all-at (fits-at l rs) most-tasks (ok .fitting) k lt
+  blank-past k lt le = sym (cond-false _ _ _ (le-ltb k (l .count) le)) ∙ fits-parts l rs (ok .fitting) .each-fits k lt
 
   fits-each : (k : ℕ) → k < most-tasks → fits-at l (ticked order l c rs) k ≡ true
   unfolding fits-at
@@ -183,7 +184,11 @@ module _ (order : Order) (l : Layout) (c : ℕ) (rs : List Record) (v : Valid l)
       (cases-lt k (l .count))
 
   ticked-fits : state-fits l (ticked order l c rs) ≡ true
-  ticked-fits = all-from (fits-at l (ticked order l c rs)) most-tasks fits-each
+  ticked-fits =
+      fits-from l (ticked order l c rs) (record {
+        long = finished-made l v (after-growth order l (claiming l c rs)) c .long;
+        each-fits = fits-each;
+      })
 
 pub next-fits : (order : Order) (l : Layout) (c : ℕ) (rs : List Record) → Valid l → choice-legal order l c rs ≡ true → state-fits l (next-records order l c rs) ≡ true
 next-fits order l c rs v h =

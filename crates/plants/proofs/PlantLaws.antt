@@ -18,7 +18,7 @@ use Rattle.plants.specs.declared.layout.Layout.{Layout}
 use Rattle.plants.specs.declared.state.PlantState.{PlantState}
 use Rattle.plants.proofs.Entered.{Valid}
 use Rattle.plants.proofs.Same.{same-decides}
-use Rattle.plants.proofs.Steps.{all-from}
+use Rattle.plants.proofs.Fitting.{fits-from}
 use Rattle.plants.proofs.Ticks.{legal-parts}
 use Rattle.plants.proofs.NextFits.{next-fits}
 use Rattle.plants.proofs.GoesOn.{goes-on}
@@ -42,7 +42,7 @@ pub plant-laws : (order : Order) (l : Layout) → Valid l → Lawful (plant-mean
 plant-laws order l v = record {
   same-equal = λ x y h. of-records x y (same-decides (x .records) (y .records) .0 h);
   equal-same = λ x. same-decides (x .records) (x .records) .1 refl;
-  first-fits = all-from (fits-at l (first-state .records)) most-tasks (blank-fits l);
+  first-fits = fits-from l (first-state .records) (record { long = refl; each-fits = blank-fits l });
   legal-below = λ x c h. ltb-true _ _ (legal-parts order l c (x .records) h .below);
   legal-fits = λ x c h. legal-parts order l c (x .records) h .fitting;
   legal-good = λ x c h. legal-parts order l c (x .records) h .good;

@@ -1,6 +1,6 @@
 -- Sameness of records is equality.
 use mathlib.Core.Path.{_≡_, refl, ap, sym, subst, _∙_}
-use mathlib.Core.Bool.{Bool, true, false, cond, _&&_}
+use mathlib.Core.Bool.{Bool, true, _&&_}
 use mathlib.Core.List.{List, [], _∷_}
 use Prim.Native.Nat.{ℕ}
 use lib.Dec.{eqb}
@@ -11,17 +11,13 @@ use Rattle.std.proofs.shelf.Ways.{same-from-decides, decides-eqb}
 use Rattle.std.proofs.shelf.Tests.{and-parts, and-from, false≢true}
 use Rattle.plants.specs.Limits.{most-tasks}
 use Rattle.plants.specs.Below.{all-below}
-use Rattle.plants.specs.Records.{at, blank, phase-number, same-record, same-records}
+use Rattle.plants.specs.Records.{at, blank, phase-number, phase-of, same-record, same-records}
 use Rattle.plants.specs.declared.state.Record.{Record}
 use Rattle.plants.specs.declared.state.Phase.{Phase}
 use Rattle.plants.specs.declared.state.Phase.the-variants.{Before, Done, Held, Ready}
 use Rattle.plants.proofs.Steps.{all-at, all-from}
 
-phase-of : ℕ → Phase
-phase-of n = cond (eqb n 0) Before (cond (eqb n 1) Done (cond (eqb n 2) Held Ready))
-
-phase-back : (p : Phase) → phase-of (phase-number p) ≡ p
-unfolding phase-of
+pub phase-back : (p : Phase) → phase-of (phase-number p) ≡ p
 phase-back Before = refl
 phase-back Done = refl
 phase-back Held = refl

@@ -7,7 +7,7 @@ use native.Mathlib.Omega.{arith}
 use lib.Dec.{ltb}
 use Rattle.std.proofs.shelf.Ways.{tells}
 use Rattle.std.proofs.shelf.Tests.{and-parts, cond-true, lt-ltb, ltb-true, not-true}
-use Rattle.plants.specs.Limits.{most-resources, most-ticks, most-tasks}
+use Rattle.plants.specs.Limits.{most-resources, most-ticks}
 use Rattle.plants.specs.Bits.{bit}
 use Rattle.plants.specs.Below.{all-below}
 use Rattle.plants.specs.Layouts.{valid-at, task-at, in-ranges}
@@ -21,6 +21,7 @@ use Rattle.plants.specs.declared.state.Phase.the-variants.{Before, Done, Held,
 use Rattle.plants.proofs.Each.{Made, each-made}
 use Rattle.plants.proofs.Entered.{Valid}
 use Rattle.plants.proofs.Steps.{all-at}
+use Rattle.plants.proofs.Fitting.{fits-parts}
 
 pub record Within (l : Layout) (i : ℕ) : Type 0 where
   pub ranges : in-ranges (task-at l i) ≡ true
@@ -53,7 +54,7 @@ pub fits-one : (l : Layout) → Valid l → (rs : List Record) → state-fits l 
 unfolding fits-at
 fits-one l v rs f k lt =
     let few = v .tasks-few in
-    sym (cond-true _ _ _ (lt-ltb k (l .count) lt)) ∙ all-at (fits-at l rs) most-tasks f k (omega arith)
+    sym (cond-true _ _ _ (lt-ltb k (l .count) lt)) ∙ fits-parts l rs f .each-fits k (omega arith)
 
 -- a record that fits is low
 abbrev Low-in : Task → Phase → Type 0
@@ -79,6 +80,12 @@ low-in t Done = low-done t
 low-in t Held = low-held t
 low-in t Ready = low-ready t
 
+pub low-one : (l : Layout) → Valid l → (rs : List Record) → state-fits l rs ≡ true → (k : ℕ) → k < l .count → Low (at rs k)
+low-one l v rs f k lt =
+    let r = at rs k in
+    let n = low-in (task-at l k) (r .phase) (r .since) (r .run) (r .waited) (within l v k lt .ranges) (fits-one l v rs f k lt) in
+    record { since = n .0; run = n .1; waited = n .2 }
+
 low-cond : (b : Bool) (r s : Record) → Low r → Low s → Low (cond b r s)
 low-cond true r s p q = p
 low-cond false r s p q = q
@@ -93,9 +100,8 @@ pub low-claiming : (l : Layout) → Valid l → (c : ℕ) (rs : List Record) →
 low-claiming l v c rs f k lt =
     let r = at rs k in
     let ss = after-releases l c rs in
-    let n = low-in (task-at l k) (r .phase) (r .since) (r .run) (r .waited) (within l v k lt .ranges) (fits-one l v rs f k lt) in
     let one : Low (at ss k) =
-    subst⁻¹ Low (released-made l v rs c .entered k lt) (low-cond (bit c k) released r low-released (record { since = n .0; run = n .1; waited = n .2 })) in
+    subst⁻¹ Low (released-made l v rs c .entered k lt) (low-cond (bit c k) released r low-released (low-one l v rs f k lt)) in
     subst⁻¹ Low (readied-made l v ss .entered k lt) (low-cond (comes-ready l ss k) (readied (at ss k)) (at ss k) (low-readied (at ss k) one) one)
 
 -- what a legal choice is

@@ -10,3 +10,4 @@ pub mod Rules
 pub mod Replies
 pub mod Chains
 pub mod Schedules
+pub mod Numbers

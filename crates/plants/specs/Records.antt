@@ -17,6 +17,10 @@ phase-number Done = 1
 phase-number Held = 2
 phase-number Ready = 3
 
+-- the phase of a number; whether the number is one of the four is tested apart from it
+abbrev pub phase-of : ℕ → Phase
+phase-of n = cond (eqb n 0) Before (cond (eqb n 1) Done (cond (eqb n 2) Held Ready))
+
 abbrev pub is-before : Phase → Bool
 is-before Before = true
 is-before Done = false

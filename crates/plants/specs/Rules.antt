@@ -31,6 +31,8 @@ pub record Fits-task (t : Task) (r : Record) : Type 0 where
   pub idle : (r .phase ≡ Ready → ⊥) → (r .run ≡ 0) × (r .waited ≡ 0)
 
 pub record Fits (l : Layout) (s : PlantState) : Type 0 where
+  -- there are as many records as there should be
+  pub long : length (s .records) ≡ most-tasks
   pub entered : (k : ℕ) → k < l .count → Fits-task (task-at l k) (record-at s k)
   -- a task that is not entered has four zeros
   pub others : (k : ℕ) → k < most-tasks → l .count ≤ k → record-at s k ≡ blank

@@ -3,6 +3,7 @@ use Prim.Native.Nat.{ℕ, _+_, _-_, _^_}
 use mathlib.Core.Bool.{Bool, not, cond, _&&_, _||_}
 use mathlib.Core.List.{List}
 use lib.Dec.{eqb, ltb, leb}
+use lib.ListN.{length}
 use Rattle.policies.specs.declared.policy.Claim.{Claim}
 use Rattle.plants.specs.Limits.{most-tasks}
 use Rattle.plants.specs.Bits.{bit}
@@ -36,8 +37,9 @@ is-blank r = is-before (r .phase) && eqb (r .since) 0 && eqb (r .run) 0 && eqb (
 unfoldable pub fits-at : Layout → List Record → ℕ → Bool
 fits-at l rs i = cond (ltb i (l .count)) (fits-task (task-at l i) (at rs i)) (is-blank (at rs i))
 
-abbrev pub state-fits : Layout → List Record → Bool
-state-fits l rs = all-below (fits-at l rs) most-tasks
+-- there are as many records as there should be, and each fits
+unfoldable pub state-fits : Layout → List Record → Bool
+state-fits l rs = eqb (length rs) most-tasks && all-below (fits-at l rs) most-tasks
 
 -- a held or ready task has come to its deadline
 abbrev pub is-late : Task → Record → Bool

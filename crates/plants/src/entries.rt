@@ -62,6 +62,13 @@ impl DraftPlant {
         outcome.answer()
     }
 
+    // How many tasks are entered.
+    pub fn task_count(&self) -> usize
+        ensures { λ r. ⌜ r ≡ now (self .entry) .layout .count ⌝ }
+    {
+        self.layout.count
+    }
+
     // Moves the draft into a plant that holds exactly its entries, and whose runs are the chains of its ticks.
     pub fn fix<P: Policy>(self, policy: P) -> Plant<P>
         ensures layout { λ r. ⌜ r .layout ≡ self .layout ⌝ }

@@ -3,6 +3,7 @@ mod bits;
 pub mod draft;
 mod entries;
 pub mod layout;
+pub mod logging;
 pub mod plant;
 mod running;
 pub mod schedules;

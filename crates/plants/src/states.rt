@@ -1,6 +1,7 @@
 // Which states fit a plant, which are bad, and which are the same.
 ghost use mathlib.Core.Path.{_≡_};
 ghost use Prim.Native.Nat.{_<_, _≤_};
+ghost use lib.ListN.{length};
 ghost use Rattle.plants.specs.Limits.{most-tasks};
 ghost use Rattle.plants.specs.Records.{first-state, same-record, same-records};
 ghost use Rattle.plants.specs.Tick.{fits-task, is-blank, fits-at, state-fits, is-late, state-bad};
@@ -49,7 +50,8 @@ fn is_blank(r: &Record) -> bool
 
 fn fits_at(layout: &Layout, state: &PlantState, i: usize) -> bool
     requires { ⌜ i < most-tasks ⌝ }
-    ensures { λ r. ⌜ r ≡ fits-at (now (layout .entry)) (now (state .entry) .records) i ⌝ }
+    ensures reply { λ r. ⌜ r ≡ fits-at (now (layout .entry)) (now (state .entry) .records) i ⌝ }
+    ensures long { λ _. ⌜ length (now (state .entry) .records) ≡ most-tasks ⌝ }
 {
     let record = state.records[i];
     if i < layout.count {

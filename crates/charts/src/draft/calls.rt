@@ -47,6 +47,13 @@ impl DraftChart {
         outcome.answer()
     }
 
+    // How many steps are entered.
+    pub fn step_count(&self) -> usize
+        ensures { λ r. ⌜ r ≡ now (self .entry) .entries .steps ⌝ }
+    {
+        self.entries.steps
+    }
+
     // Fixes the chart, which holds exactly the draft's entries; the draft is then gone.
     pub fn fix(self) -> Chart
         ensures { λ r. ⌜ r .entries ≡ self .entries ⌝ }

@@ -5,8 +5,8 @@ use Rattle.plants.proofs.states.fits_at.Needs as need
 
 pub returns-then-i-layout : need.returns-then-i-layout
 unfolding fits-at
-returns-then-i-layout c = search needs
+returns-then-i-layout c = record { reply = search needs; long = search needs }
 
 pub returns-else-i-layout : need.returns-else-i-layout
 unfolding fits-at
-returns-else-i-layout c = search needs
+returns-else-i-layout c = record { reply = search needs; long = search needs }

@@ -1,0 +1,5 @@
+pub mod Answers
+pub mod Pieces
+pub mod Serving
+pub mod Turns
+pub mod Log

@@ -9,7 +9,6 @@ use lib.ListN.{length, take, drop, length-append}
 use Rattle.std.proofs.shelf.Lists.{take-at, drop-at}
 use Rattle.std.proofs.shelf.Tests.{and-parts, leb-true}
 use Rattle.std.proofs.shelf.Ways.{tells}
-use Rattle.std.specs.declared.option.Option.{Option}
 use Rattle.std.specs.declared.option.Option.the-variants.{Some}
 use Rattle.lines.specs.Spelling.{letters, digit-or-space, column, columns, small, spelling, tag-length, width, largest, feed, OneSpelling}
 use Rattle.lines.specs.Reading.{worth, tags, tag-of}

@@ -4,15 +4,14 @@ use mathlib.Core.Bool.{Bool, true, false, cond, _&&_}
 use mathlib.Core.List.{List, [], _∷_, map}
 use Prim.Native.Nat.{ℕ, _+_, _-_, _/_, _<_, _≤_}
 use native.Mathlib.Omega.{arith}
-use denote.Ref.{now}
 use lib.Dec.{eqb, lit≤}
 use lib.ListN.{length, take, drop, getD}
 use Rattle.std.proofs.shelf.Lists.{drop-more, drop-drop, drop-all}
 use Rattle.std.proofs.shelf.Tests.{cond-both, both-ways, and-parts, eqb-true, leb-true}
 use Rattle.std.specs.declared.option.Option.{Option}
 use Rattle.std.specs.declared.option.Option.the-variants.{Some, None}
-use Rattle.lines.specs.Spelling.{feed, counts, small, most, spelling, tag-length, width}
-use Rattle.lines.specs.Reading.{input-of, ahead, piece, past-piece, line-of, line-tagged, if-spelled, worths, tag-of, tags, heard, Hears}
+use Rattle.lines.specs.Spelling.{feed, counts, most, tag-length, width}
+use Rattle.lines.specs.Reading.{input-of, ahead, piece, line-of, line-tagged, if-spelled, worths, tag-of, tags, heard, Hears}
 use Rattle.lines.specs.declared.reader.LineReader.{LineReader}
 use Rattle.lines.specs.declared.tag.Tag.{Tag}
 use Rattle.lines.specs.declared.tag.Tag.the-variants.{Plnt, Chrt, Inpt, Fixd, Verd, Step, Setl, Show, Rsrc, Lead, Task, Offr, Runs, Line}

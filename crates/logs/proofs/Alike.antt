@@ -7,19 +7,18 @@ use mathlib.Core.Logic.{⊎-elim}
 use Prim.Native.Nat.{ℕ, _+_, _≤_, _<_, min}
 use native.Mathlib.Omega.{arith}
 use lib.Dec.{ltb}
-use lib.ListN.{length, take, set, getD, length-set}
+use lib.ListN.{length, set, getD, length-set}
 use lib.Seq.{take-set-lt}
 use Rattle.std.proofs.shelf.Lists.{getD-take, take-more-set}
-use Rattle.std.proofs.shelf.Tests.{cond-both, cond-true, cond-false, ltb-true, lt-ltb, and-right, cases-bool, both-ways}
+use Rattle.std.proofs.shelf.Tests.{cond-both, cond-true, cond-false, ltb-true, and-right, cases-bool, both-ways}
 use Rattle.std.specs.declared.option.Option.{Option}
 use Rattle.std.specs.declared.option.Option.the-variants.{Some, None}
-use Rattle.systems.specs.Systems.{Meaning}
 use Rattle.systems.specs.Outcomes.{answer-of, accepts}
 use Rattle.systems.specs.Judging.{judged}
 use Rattle.systems.specs.declared.outcome.Outcome.{Outcome}
 use Rattle.systems.specs.declared.outcome.Outcome.the-variants.{Accepted, Unfit, Bad, Listed, Full, NoSuchPlace, FirstNotListed, Unsettled}
 use Rattle.sessions.specs.declared.cell.Cell.{Cell}
-use Rattle.sessions.specs.Tables.{Listing, listing, cell, empty, used, room, most-places, cell-at, state-at, added, marked, find, unsettled}
+use Rattle.sessions.specs.Tables.{Listing, cell, empty, used, room, most-places, state-at, added, marked, find, unsettled}
 use Rattle.sessions.specs.Calls.{offer, offered, scanned, settle, settled, shown, verdict}
 use Rattle.lines.specs.declared.tag.Tag.{Tag}
 use Rattle.lines.specs.declared.tag.Tag.the-variants.{Offr, Setl, Show, Verd, Runs}

@@ -1,18 +1,17 @@
 -- The entries of a chart stay valid line by line, and a chart of valid entries obeys the six laws.
 use mathlib.Core.Path.{_≡_, refl, sym, ap, subst, _∙_}
-use mathlib.Core.Bool.{Bool, true, false, cond, not, _&&_}
+use mathlib.Core.Bool.{true, false, not, _&&_}
 use Prim.Native.Nat.{ℕ, _≤_, _<_}
 use native.Mathlib.Omega.{arith}
-use lib.Dec.{eqb, ltb, lit<, lit≤}
-use lib.ListN.{length, getD, length-set, getD-replicate}
-use Rattle.std.proofs.shelf.Tests.{eqb-true, eq-eqb, ltb-true, ltb-false, lt-ltb, and-parts, and-from, not-true, not-from-false, cond-true, cond-false, cond-both}
+use lib.Dec.{ltb, lit<, lit≤}
+use lib.ListN.{length, length-set, getD-replicate}
+use Rattle.std.proofs.shelf.Tests.{eqb-true, eq-eqb, ltb-true, lt-ltb, and-parts, and-from, not-true, not-from-false, cond-true, cond-false, cond-both}
 use Rattle.std.proofs.shelf.Ways.{tells}
-use Rattle.systems.specs.Systems.{Meaning, Lawful}
+use Rattle.systems.specs.Systems.{Lawful}
 use Rattle.systems.specs.Outcomes.{accepts}
 use Rattle.charts.specs.Entries.{most-steps, most-inputs, begun, lead-at, add-step, with-step, add-input, with-input, set-lead, with-lead}
 use Rattle.charts.specs.Charts.{chart-meaning, fits, bad, legal}
 use Rattle.charts.specs.declared.entries.Entries.{Entries}
-use Rattle.charts.specs.declared.entries.Step.{Step}
 use Rattle.charts.proofs.Valid.{Valid, valid-step, valid-lead}
 
 -- valid entries in a table of full size

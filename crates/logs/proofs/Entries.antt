@@ -9,7 +9,6 @@ use lib.Dec.{eqb, ltb, leb, lit<, lit≤}
 use Rattle.std.proofs.shelf.Tests.{cond-both, ltb-true}
 use Rattle.std.specs.declared.option.Option.{Option}
 use Rattle.std.specs.declared.option.Option.the-variants.{Some, None}
-use Rattle.systems.specs.Outcomes.{answer-of}
 use Rattle.systems.specs.declared.outcome.Outcome.{Outcome}
 use Rattle.systems.specs.declared.outcome.Outcome.the-variants.{Accepted, FieldOutside, NoRoom, NotEntered, GapsUnlike}
 use Rattle.policies.specs.Classes.{classes}

@@ -1,19 +1,17 @@
 -- What the log promises: an accepted verdict is true, every number fits its column, every line has an answer, and the
 -- answers do not depend on what the cells held.
-use mathlib.Core.Path.{_≡_, refl, sym, ap, subst, _∙_}
-use mathlib.Core.Bool.{Bool, true, false, cond}
+use mathlib.Core.Path.{_≡_, refl, sym, ap, _∙_}
+use mathlib.Core.Bool.{true, false}
 use mathlib.Core.Logic.{⊎-elim}
 use mathlib.Core.List.{List, [], _∷_, map}
 use Prim.Native.Nat.{ℕ, zero, suc, _≤_}
 use native.Mathlib.Omega.{arith}
-use lib.Dec.{ltb, lit≤}
 use lib.ListN.{length, getD, take, length-set}
-use Rattle.std.proofs.shelf.Tests.{cond-both, cond-true, cond-false, cases-bool, and-parts, ltb-true, both-ways}
+use Rattle.std.proofs.shelf.Tests.{cond-both, cond-true, cond-false, cases-bool, and-parts, ltb-true}
 use Rattle.std.specs.declared.option.Option.{Option}
 use Rattle.std.specs.declared.option.Option.the-variants.{Some, None}
 use Rattle.systems.specs.Systems.{Meaning, Lawful, Safe}
 use Rattle.systems.specs.Outcomes.{answer-of, accepts}
-use Rattle.systems.specs.declared.outcome.Outcome.{Outcome}
 use Rattle.sessions.specs.declared.cell.Cell.{Cell}
 use Rattle.sessions.specs.Tables.{Listing, empty, state-at, added, marked}
 use Rattle.sessions.specs.Calls.{offer, offered, settle, settled, verdict}
@@ -21,7 +19,7 @@ use Rattle.sessions.specs.Pasts.{Reached, Offer, Settle}
 use Rattle.sessions.proofs.Pasts.{reached-open, reached-step}
 use Rattle.sessions.proofs.Promises.{promise}
 use Rattle.charts.specs.Charts.{chart-meaning}
-use Rattle.charts.specs.Entries.{most-steps, most-inputs, add-step, with-step, add-input, with-input, set-lead, with-lead}
+use Rattle.charts.specs.Entries.{with-step, with-input, with-lead}
 use Rattle.charts.specs.declared.entries.Entries.{Entries}
 use Rattle.charts.proofs.Numbered.{chart-numbered}
 use Rattle.policies.specs.Orders.{site}
@@ -38,16 +36,16 @@ use Rattle.lines.specs.Spelling.{small, largest, most}
 use Rattle.lines.specs.Reading.{no-line, line-of, heard}
 use Rattle.lines.specs.Logging.{Numbered}
 use Rattle.lines.specs.declared.tag.Tag.{Tag}
-use Rattle.lines.specs.declared.tag.Tag.the-variants.{Verd, Fixd, Rsrc, Task, Step, Inpt, Lead, Offr, Setl, Show, Line}
+use Rattle.lines.specs.declared.tag.Tag.the-variants.{Verd, Fixd, Rsrc, Task, Step, Inpt, Lead, Offr, Setl, Show}
 use Rattle.logs.specs.declared.opening.Kind.{Kind}
 use Rattle.logs.specs.declared.opening.Kind.the-variants.{Plant, Chart}
-use Rattle.logs.specs.Answers.{Said, is, index, nth, unheard, answered}
-use Rattle.logs.specs.Pieces.{pieces, lines-in}
+use Rattle.logs.specs.Answers.{Said, is, index, nth, answered}
+use Rattle.logs.specs.Pieces.{pieces}
 use Rattle.logs.specs.Serving.{Logged, after-offer, reply, is-shown, says-in, goes-in, served}
 use Rattle.logs.specs.Turns.{Turn, Opening, Plant-draft, Chart-draft, On-plant, On-chart, Memory, kind, begins, opening, plant-reply, plant-after, task-of, chart-reply, chart-after, site-plant, logged-plant, logged-chart, says, entered, fixed, goes, Safe-turn}
-use Rattle.logs.specs.Log.{most-bytes, answers, turn-after, fresh, places, lines-read, answers-to, Closed-is-safe, All-small, Complete, Any-memory}
+use Rattle.logs.specs.Log.{most-bytes, answers, turn-after, fresh, places, lines-read, Closed-is-safe, All-small, Complete, Any-memory}
 use Rattle.logs.proofs.Ahead.{few-heard}
-use Rattle.logs.proofs.Served.{Narrow, Small, fits, unheard-small, reply-small, reached-good}
+use Rattle.logs.proofs.Served.{Narrow, fits, reply-small, reached-good}
 use Rattle.logs.proofs.Noted.{small-pair}
 use Rattle.logs.proofs.Entries.{opening-small, plant-reply-small, chart-reply-small, few-choices}
 use Rattle.logs.proofs.ChartsKept.{Kept, kept-begun, kept-step, kept-input, kept-lead, chart-lawful}

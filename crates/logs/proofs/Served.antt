@@ -1,29 +1,28 @@
 -- Lines in a session: every number of an answer fits its column, and a state that is shown fits.
-use mathlib.Core.Path.{_≡_, refl, sym, ap, subst, _∙_}
-use mathlib.Core.Bool.{Bool, true, false, cond}
+use mathlib.Core.Path.{_≡_, ap, subst, _∙_}
+use mathlib.Core.Bool.{Bool, true}
 use mathlib.Core.List.{List, [], _∷_, _++_, append-assoc}
 use Prim.Native.Nat.{ℕ, zero, suc, _+_, _≤_, _<_}
 use native.Mathlib.Omega.{arith}
 use lib.Dec.{ltb, lit≤}
 use lib.ListN.{length}
-use Rattle.std.proofs.shelf.Tests.{cond-both, cond-true, cond-false, ltb-true}
+use Rattle.std.proofs.shelf.Tests.{cond-both, cond-true, ltb-true}
 use Rattle.std.specs.declared.option.Option.{Option}
 use Rattle.std.specs.declared.option.Option.the-variants.{Some, None}
 use Rattle.systems.specs.Systems.{Meaning, Lawful}
 use Rattle.systems.specs.Outcomes.{answer-of}
-use Rattle.systems.specs.Judging.{judged, judged-from, ended}
+use Rattle.systems.specs.Judging.{judged, judged-from}
 use Rattle.systems.specs.declared.outcome.Outcome.{Outcome}
 use Rattle.systems.specs.declared.outcome.Outcome.the-variants.{Accepted, Unfit, Bad, Listed, Full, NoSuchPlace, LeadsToBad, LeadsOutside, FirstNotListed, Unsettled, NotLegal, EndsNotBad, NotALine, OutOfTurn}
-use Rattle.sessions.specs.declared.cell.Cell.{Cell}
 use Rattle.sessions.specs.Tables.{Listing, empty, used, room, state-at, find, unsettled}
-use Rattle.sessions.specs.Calls.{lowest, tally, stops, decided, scanned, offer, settle, shown, verdict}
-use Rattle.sessions.specs.Pasts.{Reached, past}
+use Rattle.sessions.specs.Calls.{tally, decided, scanned, settle, shown, verdict}
+use Rattle.sessions.specs.Pasts.{Reached}
 use Rattle.sessions.proofs.Tables.{Good, good-empty, good-past}
 use Rattle.lines.specs.Spelling.{largest, most}
 use Rattle.lines.specs.declared.tag.Tag.{Tag}
 use Rattle.lines.specs.declared.tag.Tag.the-variants.{Offr, Setl, Show, Verd, Runs, Line}
 use Rattle.logs.specs.Answers.{Said, is, nth, unheard, line-spelled, spelled}
-use Rattle.logs.specs.Serving.{Logged, offer-of, reply, says-in, goes-in, served}
+use Rattle.logs.specs.Serving.{Logged, offer-of, reply}
 
 -- both numbers of a pair fit their columns
 pub record Narrow (a : ℕ × ℕ) : Type 0 where

@@ -1,13 +1,13 @@
 -- Judging follows a list of choices step by step, and accepts exactly the bad runs.
-use mathlib.Core.Path.{_≡_, refl, sym, _∙_, ap}
-use mathlib.Core.Bool.{Bool, true, false, cond}
+use mathlib.Core.Path.{_≡_, sym, _∙_, ap}
+use mathlib.Core.Bool.{true, false}
 use mathlib.Core.List.{List, [], _∷_}
 use Prim.Native.Nat.{ℕ, suc, _+_, _<_, _≤_}
 use native.Mathlib.Omega.{arith}
 use lib.ListN.{length, drop, getD}
 use Rattle.std.proofs.shelf.Lists.{drop-more, drop-all}
 use Rattle.std.proofs.shelf.Tests.{cond-true, cond-false, cond-both}
-use Rattle.systems.specs.Systems.{Meaning, Legal, led, BadRun}
+use Rattle.systems.specs.Systems.{Meaning, Legal, led}
 use Rattle.systems.specs.Outcomes.{answer-of}
 use Rattle.systems.specs.Judging.{ended, judged-from, judged, Judges}
 use Rattle.systems.specs.declared.outcome.Outcome.{Outcome}

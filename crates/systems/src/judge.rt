@@ -1,6 +1,5 @@
 // Judging a list of choices: is it a run whose last state is bad?
 ghost use mathlib.Core.Path.{_≡_};
-ghost use Rattle.systems.specs.Systems.{BadRun};
 ghost use Rattle.systems.specs.Outcomes.{answer-of};
 ghost use Rattle.systems.specs.Judging.{judged, ended, Judges};
 use crate::outcome::Outcome;

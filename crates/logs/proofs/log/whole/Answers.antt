@@ -1,8 +1,7 @@
 -- The lines before a draft, and then those of the draft and its session, are all lines of the input.
-use mathlib.Core.Path.{_≡_, sym, ap, _∙_}
-use mathlib.Core.List.{_++_, []}
+use mathlib.Core.Path.{ap, _∙_}
+use mathlib.Core.List.{_++_}
 use lib.ListN.{drop}
-use Rattle.std.specs.Of.Vec.{vec-items}
 use Rattle.lines.specs.Reading.{input-of}
 use Rattle.logs.specs.Answers.{spelled}
 use Rattle.logs.specs.Pieces.{lines-in, lines-ahead}

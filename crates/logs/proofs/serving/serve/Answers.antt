@@ -1,12 +1,11 @@
 -- Each turn passes one line and adds its answer.
-use mathlib.Core.Path.{_≡_, sym, ap, subst, _∙_}
-use mathlib.Core.List.{List, [], _∷_, _++_}
-use Prim.Native.Nat.{ℕ}
+use mathlib.Core.Path.{sym, ap, _∙_}
+use mathlib.Core.List.{_++_}
 use Rattle.std.specs.Of.Vec.{vec-items}
 use Rattle.std.proofs.shelf.Lists.{append-nil}
-use Rattle.sessions.specs.Views.{system-of, table-of}
+use Rattle.sessions.specs.Views.{table-of}
 use Rattle.lines.specs.Reading.{said}
-use Rattle.logs.specs.Answers.{Said, spelled}
+use Rattle.logs.specs.Answers.{spelled}
 use Rattle.logs.specs.Pieces.{lines-ahead}
 use Rattle.logs.specs.Serving.{logged, says-in, goes-in, served}
 use Rattle.logs.proofs.Ahead.{ahead-more, ahead-less, ahead-none, heard-few}

@@ -1,17 +1,14 @@
 -- The line's answer is the definition's, and its numbers fit their columns.
 use mathlib.Core.Path.{_≡_, sym, ap, subst, _∙_}
-use mathlib.Core.Bool.{true, false, _&&_}
-use mathlib.Core.List.{List, _++_}
-use Prim.Native.Nat.{ℕ, _≤_}
+use mathlib.Core.List.{_++_}
+use Prim.Native.Nat.{_≤_}
 use native.Mathlib.Omega.{arith}
-use lib.Dec.{ltb}
 use lib.ListN.{length}
 use Rattle.std.specs.Of.Vec.{vec-items}
-use Rattle.std.proofs.shelf.Tests.{and-parts, cond-true, cond-false}
-use Rattle.systems.specs.Systems.{Meaning}
+use Rattle.std.proofs.shelf.Tests.{and-parts, cond-false}
 use Rattle.sessions.specs.Calls.{shown}
 use Rattle.sessions.specs.Pasts.{Reached}
-use Rattle.sessions.specs.Views.{system-of, table-of}
+use Rattle.sessions.specs.Views.{table-of}
 use Rattle.lines.specs.Spelling.{most}
 use Rattle.lines.specs.Reading.{said}
 use Rattle.lines.specs.declared.tag.Tag.the-variants.{Show}

@@ -5,83 +5,83 @@ use Rattle.std.proofs.lemmas.List.{get_or-set_same, get_or-set_other}
 use Rattle.std.proofs.lemmas.Bool.{cond-true, cond-false, cond_both, cases_Bool, cases_eq, cases_lt, ltb-true, and_parts}
 use Rattle.std.proofs.lemmas.Bool.Decides.{nat_tests}
 use Rattle.systems.specs.Outcomes.{accepts}
-use Rattle.charts.specs.Entries.{most-steps, most-inputs, leading, no_step, step-at, lead-at, begun, relead, add_step, with-step, add-input, with-input, set-lead, with_lead}
+use Rattle.charts.specs.Entries.{most_steps, most_inputs, leading, no_step, step_at, lead_at, begun, relead, add_step, with_step, add_input, with_input, set_lead, with_lead}
 use Rattle.charts.specs.Charts.{fits, bad, legal}
-use Rattle.charts.specs.Leads.{Call, Add-step, Add-input, Set-lead, after, past, No-lead, Last-lead, Goes, Follows-leads}
+use Rattle.charts.specs.Leads.{Call, AddStep, AddInput, SetLead, after, past, NoLead, LastLead, Goes, FollowsLeads}
 use Rattle.charts.specs.declared.entries.Step.{Step}
 use Rattle.charts.specs.declared.entries.Entries.{Entries}
 
 -- the table has a row for every step, and each row a place for every input
 record Sized (e : Entries) : Type 0 where
-  few-steps : e.steps ≤ most-steps
-  few-inputs : e.inputs ≤ most-inputs
-  rows : length e.table ≡ most-steps
-  row : (s : ℕ) → s < most-steps → length (step-at e s).leads ≡ most-inputs
+  few_steps : e.steps ≤ most_steps
+  few_inputs : e.inputs ≤ most_inputs
+  rows : length e.table ≡ most_steps
+  row : (s : ℕ) → s < most_steps → length (step_at e s).leads ≡ most_inputs
 
-sized-begun : Sized begun
-sized-begun = record {
-  few-steps = lit≤ tt;
-  few-inputs = lit≤ tt;
+sized_begun : Sized begun
+sized_begun = record {
+  few_steps = lit≤ tt;
+  few_inputs = lit≤ tt;
   rows = refl;
-  row = λ s h. ap (λ (x : Step). length x.leads) (get_or-replicate most-steps s (leading false 0) no_step h);
+  row = λ s h. ap (λ (x : Step). length x.leads) (get_or-replicate most_steps s (leading false 0) no_step h);
 }
 
 -- a row written anew has the size of any other
-row_written : (e : Entries) (n s : ℕ) (d : Step) → Sized e → n < most-steps → length d.leads ≡ most-inputs → s < most-steps → length (get_or (set e.table n d) s no_step).leads ≡ most-inputs
+row_written : (e : Entries) (n s : ℕ) (d : Step) → Sized e → n < most_steps → length d.leads ≡ most_inputs → s < most_steps → length (get_or (set e.table n d) s no_step).leads ≡ most_inputs
 row_written e n s d z h l k = ⊎_elim
-    (λ (same : s ≡ n). subst (λ j. length (get_or (set e.table n d) j no_step).leads ≡ most-inputs) (sym same) (ap (λ (x : Step). length x.leads) (get_or-set_same e.table n d no_step (omega (arith, z.rows))) ∙ l))
+    (λ (same : s ≡ n). subst (λ j. length (get_or (set e.table n d) j no_step).leads ≡ most_inputs) (sym same) (ap (λ (x : Step). length x.leads) (get_or-set_same e.table n d no_step (omega (arith, z.rows))) ∙ l))
     (λ (ne : s ≢ n). ap (λ (x : Step). length x.leads) (get_or-set_other e.table n s d no_step ne) ∙ z.row s k)
     (cases_eq s n)
 
-sized-after : (e : Entries) (c : Call) → Sized e → Sized (after e c)
-sized-after e (Add-step forbidden) z = cond_both (accepts (add_step e forbidden)) _ e Sized
+sized_after : (e : Entries) (c : Call) → Sized e → Sized (after e c)
+sized_after e (AddStep forbidden) z = cond_both (accepts (add_step e forbidden)) _ e Sized
     (λ a.
-    let room : e.steps < most-steps = grind (arith, nat_tests) in
+    let room : e.steps < most_steps = grind (arith, nat_tests) in
     record {
-      few-steps = omega arith;
-      few-inputs = z.few-inputs;
+      few_steps = omega arith;
+      few_inputs = z.few_inputs;
       rows = simp length-set z.rows;
       row = λ s h. row_written e e.steps s (leading (eqb forbidden 1) e.steps) z room refl h;
     })
     (λ _. z)
-sized-after e Add-input z = cond_both (accepts (add-input e)) _ e Sized
+sized_after e AddInput z = cond_both (accepts (add_input e)) _ e Sized
     (λ a.
-    let room : e.inputs < most-inputs = grind (arith, nat_tests) in
-    record { few-steps = z.few-steps; few-inputs = omega arith; rows = z.rows; row = z.row })
+    let room : e.inputs < most_inputs = grind (arith, nat_tests) in
+    record { few_steps = z.few_steps; few_inputs = omega arith; rows = z.rows; row = z.row })
     (λ _. z)
-sized-after e (Set-lead step input next) z = cond_both (accepts (set-lead e step input next)) _ e Sized
+sized_after e (SetLead step input next) z = cond_both (accepts (set_lead e step input next)) _ e Sized
     (λ a.
     let entered : step < e.steps = grind (arith, nat_tests) in
-    let h : step < most-steps = omega (arith, z.few-steps) in
+    let h : step < most_steps = omega (arith, z.few_steps) in
     record {
-      few-steps = z.few-steps;
-      few-inputs = z.few-inputs;
+      few_steps = z.few_steps;
+      few_inputs = z.few_inputs;
       rows = simp length-set z.rows;
-      row = λ s k. row_written e step s (relead (step-at e step) input next) z h (simp length-set (z.row step h)) k;
+      row = λ s k. row_written e step s (relead (step_at e step) input next) z h (simp length-set (z.row step h)) k;
     })
     (λ _. z)
 
 sized_past : (calls : List Call) (e : Entries) → Sized e → Sized (past e calls)
 sized_past [] e z = z
-sized_past (c ∷ cs) e z = sized_past cs (after e c) (sized-after e c z)
+sized_past (c ∷ cs) e z = sized_past cs (after e c) (sized_after e c z)
 
 -- the input leads from the step to n; where the step is not entered yet, n is the step
 record At (e : Entries) (s i n : ℕ) : Type 0 where
-  entered : s < e.steps → lead-at e s i ≡ n
+  entered : s < e.steps → lead_at e s i ≡ n
   not_yet : e.steps ≤ s → n ≡ s
 
-at-begun : (s i : ℕ) → i < most-inputs → At begun s i s
-at-begun s i h = record {
-  entered = λ k. let first : s ≡ 0 = omega arith in subst (λ j. lead-at begun j i ≡ j) (sym first) (get_or-replicate {A = ℕ} most-inputs i 0 0 h);
+at_begun : (s i : ℕ) → i < most_inputs → At begun s i s
+at_begun s i h = record {
+  entered = λ k. let first : s ≡ 0 = omega arith in subst (λ j. lead_at begun j i ≡ j) (sym first) (get_or-replicate {A = ℕ} most_inputs i 0 0 h);
   not_yet = λ _. refl;
 }
 
 module _ (e : Entries) (z : Sized e) (s i : ℕ) where
   -- a step that is entered leads to itself, and changes no other
-  at-step : (n forbidden : ℕ) → i < most-inputs → At e s i n → At (with-step e forbidden) s i n
-  at-step n forbidden h at = cond_both (accepts (add_step e forbidden)) _ e (λ x. At x s i n)
+  at_step : (n forbidden : ℕ) → i < most_inputs → At e s i n → At (with_step e forbidden) s i n
+  at_step n forbidden h at = cond_both (accepts (add_step e forbidden)) _ e (λ x. At x s i n)
       (λ a.
-      let room : e.steps < most-steps = grind (arith, nat_tests) in
+      let room : e.steps < most_steps = grind (arith, nat_tests) in
       let d = leading (eqb forbidden 1) e.steps in
       let row : ℕ → Step = λ j. get_or (set e.table e.steps d) j no_step in
       record {
@@ -89,7 +89,7 @@ module _ (e : Entries) (z : Sized e) (s i : ℕ) where
             (λ (lt : s < e.steps). let ne : s ≢ e.steps = omega arith in ap (λ (x : Step). get_or x.leads i 0) (get_or-set_other e.table e.steps s d no_step ne) ∙ at.entered lt)
             (λ (le : e.steps ≤ s).
             let same : s ≡ e.steps = omega (arith, k) in
-            let new : get_or (row e.steps).leads i 0 ≡ e.steps = ap (λ (x : Step). get_or x.leads i 0) (get_or-set_same e.table e.steps d no_step (omega (arith, z.rows))) ∙ get_or-replicate most-inputs i e.steps 0 h in
+            let new : get_or (row e.steps).leads i 0 ≡ e.steps = ap (λ (x : Step). get_or x.leads i 0) (get_or-set_same e.table e.steps d no_step (omega (arith, z.rows))) ∙ get_or-replicate most_inputs i e.steps 0 h in
             subst (λ j. get_or (row j).leads i 0 ≡ j) (sym same) new ∙ sym (at.not_yet le))
             (cases_lt s e.steps);
         not_yet = λ k. at.not_yet (omega arith);
@@ -97,31 +97,31 @@ module _ (e : Entries) (z : Sized e) (s i : ℕ) where
       (λ _. at)
 
   -- an input changes no lead
-  at-input : (n : ℕ) → At e s i n → At (with-input e) s i n
-  at-input n at = cond_both (accepts (add-input e)) _ e (λ x. At x s i n) (λ _. record { entered = at.entered; not_yet = at.not_yet }) (λ _. at)
+  at_input : (n : ℕ) → At e s i n → At (with_input e) s i n
+  at_input n at = cond_both (accepts (add_input e)) _ e (λ x. At x s i n) (λ _. record { entered = at.entered; not_yet = at.not_yet }) (λ _. at)
 
   -- an accepted lead for the step and the input goes where it says
-  at-lead : (n : ℕ) → i < most-inputs → accepts (set-lead e s i n) ≡ true → At (with_lead e s i n) s i n
-  at-lead n h a =
+  at_lead : (n : ℕ) → i < most_inputs → accepts (set_lead e s i n) ≡ true → At (with_lead e s i n) s i n
+  at_lead n h a =
       let step : s < e.steps = grind (arith, nat_tests) in
-      let d = relead (step-at e s) i n in
-      let row = ap (λ (x : Step). get_or x.leads i 0) (get_or-set_same e.table s d no_step (omega (arith, z.rows, z.few-steps))) in
-      subst (λ x. At x s i n) (sym (cond-true (accepts (set-lead e s i n)) _ e a))
+      let d = relead (step_at e s) i n in
+      let row = ap (λ (x : Step). get_or x.leads i 0) (get_or-set_same e.table s d no_step (omega (arith, z.rows, z.few_steps))) in
+      subst (λ x. At x s i n) (sym (cond-true (accepts (set_lead e s i n)) _ e a))
       (record {
-        entered = λ _. row ∙ get_or-set_same (step-at e s).leads i n 0 (omega (arith, z.row s (omega (arith, z.few-steps))));
+        entered = λ _. row ∙ get_or-set_same (step_at e s).leads i n 0 (omega (arith, z.row s (omega (arith, z.few_steps))));
         not_yet = λ k. absurd (omega arith);
       })
 
   -- a lead for another step or another input changes nothing
   at_other : (n step input next : ℕ) → (step ≢ s) ⊎ (input ≢ i) → At e s i n → At (with_lead e step input next) s i n
-  at_other n step input next other at = cond_both (accepts (set-lead e step input next)) _ e (λ x. At x s i n)
+  at_other n step input next other at = cond_both (accepts (set_lead e step input next)) _ e (λ x. At x s i n)
       (λ a.
       let inside : step < e.steps = grind (arith, nat_tests) in
-      let d = relead (step-at e step) input next in
-      let kept : get_or (get_or (set e.table step d) s no_step).leads i 0 ≡ lead-at e s i = ⊎_elim
+      let d = relead (step_at e step) input next in
+      let kept : get_or (get_or (set e.table step d) s no_step).leads i 0 ≡ lead_at e s i = ⊎_elim
       (λ (same : s ≡ step).
       let ne : i ≢ input = λ q. ⊎_elim (λ (p : step ≢ s). p (sym same)) (λ (p : input ≢ i). p (sym q)) other in
-      subst (λ j. get_or (get_or (set e.table step d) j no_step).leads i 0 ≡ lead-at e j i) (sym same) (ap (λ (x : Step). get_or x.leads i 0) (get_or-set_same e.table step d no_step (omega (arith, z.rows, z.few-steps))) ∙ get_or-set_other (step-at e step).leads input i next 0 ne))
+      subst (λ j. get_or (get_or (set e.table step d) j no_step).leads i 0 ≡ lead_at e j i) (sym same) (ap (λ (x : Step). get_or x.leads i 0) (get_or-set_same e.table step d no_step (omega (arith, z.rows, z.few_steps))) ∙ get_or-set_other (step_at e step).leads input i next 0 ne))
       (λ (ne : s ≢ step). ap (λ (x : Step). get_or x.leads i 0) (get_or-set_other e.table step s d no_step ne))
       (cases_eq s step) in
       record { entered = λ k. kept ∙ at.entered k; not_yet = at.not_yet })
@@ -129,55 +129,55 @@ module _ (e : Entries) (z : Sized e) (s i : ℕ) where
 
 -- one call: an accepted lead for the step and the input, or one that leaves where they lead as it was
 abbrev Sets : Entries → Call → ℕ → ℕ → ℕ → Type 0
-Sets e c s i n = (c ≡ Set-lead s i n) × (accepts (set-lead e s i n) ≡ true) × At (after e c) s i n
+Sets e c s i n = (c ≡ SetLead s i n) × (accepts (set_lead e s i n) ≡ true) × At (after e c) s i n
 
 abbrev Keeps : Entries → Call → ℕ → ℕ → ℕ → Type 0
-Keeps e c s i n = ((m : ℕ) → c ≡ Set-lead s i m → accepts (set-lead e s i m) ≡ false) × At (after e c) s i n
+Keeps e c s i n = ((m : ℕ) → c ≡ SetLead s i m → accepts (set_lead e s i m) ≡ false) × At (after e c) s i n
 
-one-call : (e : Entries) (c : Call) (s i n : ℕ) → Sized e → i < most-inputs → At e s i n → ((m : ℕ) × Sets e c s i m) ⊎ Keeps e c s i n
-one-call e (Add-step forbidden) s i n z h at = inr (λ m q. let w : ◌≡◌ {A = ℕ} 0 1 = cc in absurd (omega arith), at-step e z s i n forbidden h at)
-one-call e Add-input s i n z h at = inr (λ m q. let w : ◌≡◌ {A = ℕ} 0 1 = cc in absurd (omega arith), at-input e z s i n at)
-one-call e (Set-lead step input next) s i n z h at = ⊎_elim
+one_call : (e : Entries) (c : Call) (s i n : ℕ) → Sized e → i < most_inputs → At e s i n → ((m : ℕ) × Sets e c s i m) ⊎ Keeps e c s i n
+one_call e (AddStep forbidden) s i n z h at = inr (λ m q. let w : ◌≡◌ {A = ℕ} 0 1 = cc in absurd (omega arith), at_step e z s i n forbidden h at)
+one_call e AddInput s i n z h at = inr (λ m q. let w : ◌≡◌ {A = ℕ} 0 1 = cc in absurd (omega arith), at_input e z s i n at)
+one_call e (SetLead step input next) s i n z h at = ⊎_elim
     (λ (p : step ≡ s). ⊎_elim
     (λ (q : input ≡ i). ⊎_elim
-    (λ (a : accepts (set-lead e step input next) ≡ true).
-    let same : Set-lead step input next ≡ Set-lead s i next = cc in
-    let b : accepts (set-lead e s i next) ≡ true = subst (λ j. accepts (set-lead e j i next) ≡ true) p (subst (λ j. accepts (set-lead e step j next) ≡ true) q a) in
-    inl (next, (same, b, subst (λ c. At (after e c) s i next) (sym same) (at-lead e z s i next h b))))
-    (λ (f : accepts (set-lead e step input next) ≡ false).
+    (λ (a : accepts (set_lead e step input next) ≡ true).
+    let same : SetLead step input next ≡ SetLead s i next = cc in
+    let b : accepts (set_lead e s i next) ≡ true = subst (λ j. accepts (set_lead e j i next) ≡ true) p (subst (λ j. accepts (set_lead e step j next) ≡ true) q a) in
+    inl (next, (same, b, subst (λ c. At (after e c) s i next) (sym same) (at_lead e z s i next h b))))
+    (λ (f : accepts (set_lead e step input next) ≡ false).
     inr (
       λ m same.
           let r : next ≡ m = cc in
-          subst (λ j. accepts (set-lead e s i j) ≡ false) r (subst (λ j. accepts (set-lead e j i next) ≡ false) p (subst (λ j. accepts (set-lead e step j next) ≡ false) q f)),
-      subst (λ x. At x s i n) (sym (cond-false (accepts (set-lead e step input next)) _ e f)) at,
+          subst (λ j. accepts (set_lead e s i j) ≡ false) r (subst (λ j. accepts (set_lead e j i next) ≡ false) p (subst (λ j. accepts (set_lead e step j next) ≡ false) q f)),
+      subst (λ x. At x s i n) (sym (cond-false (accepts (set_lead e step input next)) _ e f)) at,
     ))
-    (cases_Bool (accepts (set-lead e step input next))))
+    (cases_Bool (accepts (set_lead e step input next))))
     (λ (ne : input ≢ i). inr (λ m same. let q : input ≡ i = cc in absurd (ne q), at_other e z s i n step input next (inr ne) at))
     (cases_eq input i))
     (λ (ne : step ≢ s). inr (λ m same. let p : step ≡ s = cc in absurd (ne p), at_other e z s i n step input next (inl ne) at))
     (cases_eq step s)
 
 -- the last lead of some calls is the last with a call before them
-with-earlier : (e : Entries) (c : Call) (cs : List Call) (s i n : ℕ) → Last-lead (after e c) cs s i n → Last-lead e (c ∷ cs) s i n
-with-earlier e c cs s i n l = record {
+with_earlier : (e : Entries) (c : Call) (cs : List Call) (s i n : ℕ) → LastLead (after e c) cs s i n → LastLead e (c ∷ cs) s i n
+with_earlier e c cs s i n l = record {
   before = c ∷ l.before;
   later = l.later;
   split = ap (λ (xs : List Call). c ∷ xs) l.split;
   accepted = l.accepted;
-  none-later = l.none-later;
+  none_later = l.none_later;
 }
 
 -- all calls: the last lead among them, or none and no change
 abbrev Followed : Entries → List Call → ℕ → ℕ → ℕ → Type 0
-Followed e calls s i n = ((m : ℕ) × Last-lead e calls s i m × At (past e calls) s i m) ⊎ (No-lead e calls s i × At (past e calls) s i n)
+Followed e calls s i n = ((m : ℕ) × LastLead e calls s i m × At (past e calls) s i m) ⊎ (NoLead e calls s i × At (past e calls) s i n)
 
-all-calls : (calls : List Call) (e : Entries) (s i n : ℕ) → Sized e → i < most-inputs → At e s i n → Followed e calls s i n
-all-calls [] e s i n z h at = inr (tt, at)
-all-calls (c ∷ cs) e s i n z h at = ⊎_elim
+all_calls : (calls : List Call) (e : Entries) (s i n : ℕ) → Sized e → i < most_inputs → At e s i n → Followed e calls s i n
+all_calls [] e s i n z h at = inr (tt, at)
+all_calls (c ∷ cs) e s i n z h at = ⊎_elim
     (λ (led : (m : ℕ) × Sets e c s i m).
     ⊎_elim
-    (λ (l : (m : ℕ) × Last-lead (after e c) cs s i m × At (past (after e c) cs) s i m). inl (l.0, with-earlier e c cs s i l.0 l.1, l.2))
-    (λ (none : No-lead (after e c) cs s i × At (past (after e c) cs) s i led.0).
+    (λ (l : (m : ℕ) × LastLead (after e c) cs s i m × At (past (after e c) cs) s i m). inl (l.0, with_earlier e c cs s i l.0 l.1, l.2))
+    (λ (none : NoLead (after e c) cs s i × At (past (after e c) cs) s i led.0).
     inl (
       led.0,
       record {
@@ -185,34 +185,34 @@ all-calls (c ∷ cs) e s i n z h at = ⊎_elim
         later = cs;
         split = ap (λ (x : Call). x ∷ cs) led.1.0;
         accepted = led.1.1;
-        none-later = subst (λ (x : Call). No-lead (after e x) cs s i) led.1.0 none.0;
+        none_later = subst (λ (x : Call). NoLead (after e x) cs s i) led.1.0 none.0;
       },
       none.1,
     ))
-    (all-calls cs (after e c) s i led.0 (sized-after e c z) h led.1.2))
+    (all_calls cs (after e c) s i led.0 (sized_after e c z) h led.1.2))
     (λ (kept : Keeps e c s i n).
     ⊎_elim
-    (λ (l : (m : ℕ) × Last-lead (after e c) cs s i m × At (past (after e c) cs) s i m). inl (l.0, with-earlier e c cs s i l.0 l.1, l.2))
-    (λ (none : No-lead (after e c) cs s i × At (past (after e c) cs) s i n). inr ((kept.0, none.0), none.1))
-    (all-calls cs (after e c) s i n (sized-after e c z) h kept.1))
-    (one-call e c s i n z h at)
+    (λ (l : (m : ℕ) × LastLead (after e c) cs s i m × At (past (after e c) cs) s i m). inl (l.0, with_earlier e c cs s i l.0 l.1, l.2))
+    (λ (none : NoLead (after e c) cs s i × At (past (after e c) cs) s i n). inr ((kept.0, none.0), none.1))
+    (all_calls cs (after e c) s i n (sized_after e c z) h kept.1))
+    (one_call e c s i n z h at)
 
-goes : (calls : List Call) (s i : ℕ) → s < (past begun calls).steps → i < (past begun calls).inputs → Goes calls s i (lead-at (past begun calls) s i)
+goes : (calls : List Call) (s i : ℕ) → s < (past begun calls).steps → i < (past begun calls).inputs → Goes calls s i (lead_at (past begun calls) s i)
 goes calls s i hs hi =
-    let h : i < most-inputs = omega (arith, (sized_past calls begun sized-begun).few-inputs) in
+    let h : i < most_inputs = omega (arith, (sized_past calls begun sized_begun).few_inputs) in
     ⊎_elim
-    (λ (l : (m : ℕ) × Last-lead begun calls s i m × At (past begun calls) s i m). inl (subst (λ n. Last-lead begun calls s i n) (sym (l.2.entered hs)) l.1))
-    (λ (none : No-lead begun calls s i × At (past begun calls) s i s). inr (none.0, none.1.entered hs))
-    (all-calls calls begun s i s sized-begun h (at-begun s i h))
+    (λ (l : (m : ℕ) × LastLead begun calls s i m × At (past begun calls) s i m). inl (subst (λ n. LastLead begun calls s i n) (sym (l.2.entered hs)) l.1))
+    (λ (none : NoLead begun calls s i × At (past begun calls) s i s). inr (none.0, none.1.entered hs))
+    (all_calls calls begun s i s sized_begun h (at_begun s i h))
 
-pub follows-leads : (e : Entries) → Follows-leads e
-follows-leads e =
-    let leads : (calls : List Call) → past begun calls ≡ e → (s i : ℕ) → s < e.steps → i < e.inputs → Goes calls s i (lead-at e s i) =
-    λ calls q s i. subst (λ x. s < x.steps → i < x.inputs → Goes calls s i (lead-at x s i)) q (goes calls s i) in
+pub follows_leads : (e : Entries) → FollowsLeads e
+follows_leads e =
+    let leads : (calls : List Call) → past begun calls ≡ e → (s i : ℕ) → s < e.steps → i < e.inputs → Goes calls s i (lead_at e s i) =
+    λ calls q s i. subst (λ x. s < x.steps → i < x.inputs → Goes calls s i (lead_at x s i)) q (goes calls s i) in
     record {
       leads = leads;
-      next-steps = λ calls q s i l.
+      next_steps = λ calls q s i l.
           let p = and_parts (ltb i e.inputs) (fits e s && not (bad e s)) l in
           let f = and_parts (fits e s) (not (bad e s)) p.1 in
-          subst (λ n. Goes calls s i n) (sym (cond-true (legal e s i) (lead-at e s i) s l)) (leads calls q s i (ltb-true s e.steps f.0) (ltb-true i e.inputs p.0));
+          subst (λ n. Goes calls s i n) (sym (cond-true (legal e s i) (lead_at e s i) s l)) (leads calls q s i (ltb-true s e.steps f.0) (ltb-true i e.inputs p.0));
     }

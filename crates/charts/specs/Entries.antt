@@ -7,52 +7,52 @@ use Rattle.charts.specs.declared.entries.Step.{Step}
 use Rattle.charts.specs.declared.entries.Entries.{Entries}
 
 -- the most steps and inputs of a chart
-abbrev pub most-steps : ℕ
-most-steps = 64
+abbrev pub most_steps : ℕ
+most_steps = 64
 
-abbrev pub most-inputs : ℕ
-most-inputs = 8
+abbrev pub most_inputs : ℕ
+most_inputs = 8
 
 -- a step from which every input leads to step n
 abbrev pub leading : Bool → ℕ → Step
-leading forbidden n = record { forbidden = forbidden; leads = replicate most-inputs n }
+leading forbidden n = record { forbidden = forbidden; leads = replicate most_inputs n }
 
 -- past the table
 abbrev pub no_step : Step
 no_step = record { forbidden = false; leads = [] }
 
-abbrev pub step-at : Entries → ℕ → Step
-step-at e s = slice_index_or e.table s no_step
+abbrev pub step_at : Entries → ℕ → Step
+step_at e s = slice_index_or e.table s no_step
 
 -- where an input leads from a step
-abbrev pub lead-at : Entries → ℕ → ℕ → ℕ
-lead-at e s i = slice_index (step-at e s).leads i
+abbrev pub lead_at : Entries → ℕ → ℕ → ℕ
+lead_at e s i = slice_index (step_at e s).leads i
 
 -- step 0, not forbidden, and input 0, which leads from it to itself
 abbrev pub begun : Entries
-begun = record { steps = 1; inputs = 1; table = replicate most-steps (leading false 0) }
+begun = record { steps = 1; inputs = 1; table = replicate most_steps (leading false 0) }
 
 -- a step
 abbrev pub add_step : Entries → ℕ → Outcome
 add_step e forbidden =
-    cond (nat_lt e.steps most-steps) (cond (nat_le forbidden 1) (Accepted e.steps) (FieldOutside 1)) NoRoom
+    cond (nat_lt e.steps most_steps) (cond (nat_le forbidden 1) (Accepted e.steps) (FieldOutside 1)) NoRoom
 
-abbrev pub with-step : Entries → ℕ → Entries
-with-step e forbidden =
+abbrev pub with_step : Entries → ℕ → Entries
+with_step e forbidden =
     cond (accepts (add_step e forbidden))
     (record { steps = e.steps + 1; inputs = e.inputs; table = slice_set e.table e.steps (leading (forbidden == 1) e.steps) })
     e
 
 -- an input
-abbrev pub add-input : Entries → Outcome
-add-input e = cond (nat_lt e.inputs most-inputs) (Accepted e.inputs) NoRoom
+abbrev pub add_input : Entries → Outcome
+add_input e = cond (nat_lt e.inputs most_inputs) (Accepted e.inputs) NoRoom
 
-abbrev pub with-input : Entries → Entries
-with-input e = cond (accepts (add-input e)) (record { steps = e.steps; inputs = e.inputs + 1; table = e.table }) e
+abbrev pub with_input : Entries → Entries
+with_input e = cond (accepts (add_input e)) (record { steps = e.steps; inputs = e.inputs + 1; table = e.table }) e
 
 -- a lead: from a step, by an input, to the next step
-abbrev pub set-lead : Entries → ℕ → ℕ → ℕ → Outcome
-set-lead e step input next =
+abbrev pub set_lead : Entries → ℕ → ℕ → ℕ → Outcome
+set_lead e step input next =
     cond (nat_lt step e.steps)
     (cond (nat_lt input e.inputs) (cond (nat_lt next e.steps) (Accepted 0) (FieldOutside 3)) (FieldOutside 2))
     (FieldOutside 1)
@@ -62,18 +62,18 @@ relead s input next = record { forbidden = s.forbidden; leads = slice_set s.lead
 
 abbrev pub with_lead : Entries → ℕ → ℕ → ℕ → Entries
 with_lead e step input next =
-    cond (accepts (set-lead e step input next))
-    (record { steps = e.steps; inputs = e.inputs; table = slice_set e.table step (relead (step-at e step) input next) })
+    cond (accepts (set_lead e step input next))
+    (record { steps = e.steps; inputs = e.inputs; table = slice_set e.table step (relead (step_at e step) input next) })
     e
 
 -- every step that is entered leads to steps that are entered
 abbrev pub Inside : Entries → Type 0
-Inside e = (s i : ℕ) → (s < e.steps) × (i < most-inputs) → lead-at e s i < e.steps
+Inside e = (s i : ℕ) → (s < e.steps) × (i < most_inputs) → lead_at e s i < e.steps
 
 -- by an input that is not entered every step that is entered leads to itself
 abbrev pub Idle : Entries → Type 0
-Idle e = (s i : ℕ) → (s < e.steps) × (e.inputs ≤ i) × (i < most-inputs) → lead-at e s i ≡ s
+Idle e = (s i : ℕ) → (s < e.steps) × (e.inputs ≤ i) × (i < most_inputs) → lead_at e s i ≡ s
 
 -- by an input just accepted every step that is entered leads to itself
-abbrev pub Leads-to-itself : Entries → Entries → Type 0
-Leads-to-itself e after = e.inputs < after.inputs → (s : ℕ) → s < e.steps → lead-at after s e.inputs ≡ s
+abbrev pub LeadsToItself : Entries → Entries → Type 0
+LeadsToItself e after = e.inputs < after.inputs → (s : ℕ) → s < e.steps → lead_at after s e.inputs ≡ s

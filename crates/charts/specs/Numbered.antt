@@ -3,20 +3,20 @@ use Rattle.std.specs.Prelude.{◌≡◌, ℕ, ◌≤◌, List, [], ◌∷◌, So
 use Rattle.std.proofs.Common.{arith}
 use Rattle.std.proofs.lemmas.Bool.Decides.{nat_tests}
 use Rattle.lines.specs.Logging.{Numbered}
-use Rattle.charts.specs.Entries.{most-steps}
-use Rattle.charts.specs.Charts.{chart-meaning}
-use Rattle.charts.specs.Numbers.{step-numbers, step_of}
+use Rattle.charts.specs.Entries.{most_steps}
+use Rattle.charts.specs.Charts.{chart_meaning}
+use Rattle.charts.specs.Numbers.{step_numbers, step_of}
 use Rattle.charts.specs.declared.entries.Entries.{Entries}
 
-only-list : (step : ℕ) (ns : List ℕ) → step_of ns ≡ Some step → ns ≡ step-numbers step
-only-list step [] e = let z : ◌≡◌ {A = ℕ} 0 1 = cc in absurd (omega arith)
-only-list step (n ∷ []) e = cc
-only-list step (n ∷ m ∷ ns) e = let z : ◌≡◌ {A = ℕ} 0 1 = cc in absurd (omega arith)
+only_list : (step : ℕ) (ns : List ℕ) → step_of ns ≡ Some step → ns ≡ step_numbers step
+only_list step [] e = let z : ◌≡◌ {A = ℕ} 0 1 = cc in absurd (omega arith)
+only_list step (n ∷ []) e = cc
+only_list step (n ∷ m ∷ ns) e = let z : ◌≡◌ {A = ℕ} 0 1 = cc in absurd (omega arith)
 
-pub chart-numbered : (e : Entries) → e.steps ≤ most-steps → Numbered (chart-meaning e) step-numbers step_of
-chart-numbered e few = record {
+pub chart_numbered : (e : Entries) → e.steps ≤ most_steps → Numbered (chart_meaning e) step_numbers step_of
+chart_numbered e few = record {
   few = λ step f. omega arith;
-  small-numbers = λ step f. grind (arith, nat_tests);
+  small_numbers = λ step f. grind (arith, nat_tests);
   restores = λ step f. refl;
-  one_list = λ step ns f r. only-list step ns r;
+  one_list = λ step ns f r. only_list step ns r;
 }

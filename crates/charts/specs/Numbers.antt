@@ -2,8 +2,8 @@
 use Rattle.std.specs.Prelude.{ℕ, List, [], ◌∷◌, Some, None, Option}
 
 -- the one number of a step
-abbrev pub step-numbers : ℕ → List ℕ
-step-numbers step = step ∷ []
+abbrev pub step_numbers : ℕ → List ℕ
+step_numbers step = step ∷ []
 
 -- the step that a list of numbers is: one number is a step, and no other list is
 abbrev pub step_of : List ℕ → Option ℕ

@@ -1,6 +1,6 @@
 // A fixed chart.
 ghost use Rattle.std.specs.Prelude.{◌<◌, ◌≤◌};
-ghost use Rattle.charts.specs.Entries.{most-steps, most-inputs, Inside};
+ghost use Rattle.charts.specs.Entries.{most_steps, most_inputs, Inside};
 
 use crate::entries::Entries;
 
@@ -12,8 +12,8 @@ pub mod replies;
 pub struct Chart {
     pub(crate) entries: Entries,
     ghost some_steps: { 0 < entries.steps },
-    ghost few_steps: { entries.steps ≤ most-steps },
+    ghost few_steps: { entries.steps ≤ most_steps },
     ghost some_inputs: { 0 < entries.inputs },
-    ghost few_inputs: { entries.inputs ≤ most-inputs },
+    ghost few_inputs: { entries.inputs ≤ most_inputs },
     ghost inside: { Inside entries },
 }

@@ -1,6 +1,6 @@
 // What has been entered into a chart, and what one more entry makes of it.
 ghost use Rattle.std.specs.Prelude.{◌≡◌, ◌≤◌, length};
-ghost use Rattle.charts.specs.Entries.{most-steps, most-inputs, begun as first-entries, add_step as step-entry, with-step as step_Added, add-input as input-entry, with-input as input-added, set-lead as lead-entry, with_lead as lead-added};
+ghost use Rattle.charts.specs.Entries.{most_steps, most_inputs, begun as first_entries, add_step as step_entry, with_step as step_Added, add_input as input_entry, with_input as input_added, set_lead as lead_entry, with_lead as lead_added};
 
 use systems::outcome::Outcome;
 
@@ -27,7 +27,7 @@ pub(crate) struct Entries {
 impl Entries {
     // Step 0, not forbidden, and input 0, which leads from it to itself.
     pub(crate) fn begun() -> Entries
-        ensures { result ≡ first-entries }
+        ensures { result ≡ first_entries }
     {
         let unused = Step {
             forbidden: false,
@@ -42,9 +42,9 @@ impl Entries {
 
     // One step more, from which every input leads to the step itself.
     pub(crate) fn with_step(mut self, forbidden: u32) -> (Outcome, Entries)
-        ensures outcome { result.0 ≡ step-entry self forbidden }
+        ensures outcome { result.0 ≡ step_entry self forbidden }
         ensures after { result.1 ≡ step_Added self forbidden }
-        ensures sized { length self.table ≡ most-steps }
+        ensures sized { length self.table ≡ most_steps }
     {
         let step = self.steps;
         if step >= MOST_STEPS {
@@ -63,8 +63,8 @@ impl Entries {
 
     // One input more; every step leads by it to itself already.
     pub(crate) fn with_input(mut self) -> (Outcome, Entries)
-        ensures outcome { result.0 ≡ input-entry self }
-        ensures after { result.1 ≡ input-added self }
+        ensures outcome { result.0 ≡ input_entry self }
+        ensures after { result.1 ≡ input_added self }
     {
         let input = self.inputs;
         if input >= MOST_INPUTS {
@@ -76,10 +76,10 @@ impl Entries {
 
     // Another lead, from a step by an input.
     pub(crate) fn with_lead(mut self, step: u32, input: u32, next: u32) -> (Outcome, Entries)
-        requires { (self.steps ≤ most-steps) × (self.inputs ≤ most-inputs) }
-        ensures outcome { result.0 ≡ lead-entry self step input next }
-        ensures after { result.1 ≡ lead-added self step input next }
-        ensures sized { length self.table ≡ most-steps }
+        requires { (self.steps ≤ most_steps) × (self.inputs ≤ most_inputs) }
+        ensures outcome { result.0 ≡ lead_entry self step input next }
+        ensures after { result.1 ≡ lead_added self step input next }
+        ensures sized { length self.table ≡ most_steps }
     {
         if step as usize >= self.steps {
             return (Outcome::FieldOutside(1), self);

@@ -3,34 +3,34 @@
 use Rattle.std.proofs.Common.{◌≡◌, ℕ, ◌<◌, ◌≤◌, true, List, length, Option, sym, ap, ◌∙◌, subst, arith}
 use Rattle.std.proofs.lemmas.Bool.{le-leb, leb-true}
 use Rattle.systems.specs.Systems.{Meaning}
-use Rattle.systems.specs.Outcomes.{answer-of}
+use Rattle.systems.specs.Outcomes.{answer_of}
 use Rattle.lines.specs.Spelling.{most, longest, Begins}
 use Rattle.lines.specs.Writing.{writing, written}
 use Rattle.lines.specs.Logging.{Numbered, StateLine}
 use Rattle.lines.specs.declared.tag.Tag.TheVariants.{Offr}
-use Rattle.lines.proofs.Buffers.{writing-accepted, only-written, reads-back}
-use Rattle.lines.proofs.Lines.{length-spelling}
+use Rattle.lines.proofs.Buffers.{writing_accepted, only_written, reads_back}
+use Rattle.lines.proofs.Lines.{length_spelling}
 
 -- the numbers of a state that fits have room in the longest line
-pub state-accepted : {S : Type 0} (m : Meaning S) (numbers : S → List ℕ) (restored : List ℕ → Option S) → Numbered m numbers restored → (x : S) (room : ℕ) (r : ℕ × ℕ) → r ≡ answer-of (writing Offr (numbers x) room) → m.fits x ≡ true → longest ≤ room → r.0 ≡ 0
-state-accepted m numbers restored law x room r a f h =
+pub state_accepted : {S : Type 0} (m : Meaning S) (numbers : S → List ℕ) (restored : List ℕ → Option S) → Numbered m numbers restored → (x : S) (room : ℕ) (r : ℕ × ℕ) → r ≡ answer_of (writing Offr (numbers x) room) → m.fits x ≡ true → longest ≤ room → r.0 ≡ 0
+state_accepted m numbers restored law x room r a f h =
     let ns = numbers x in
     let n : length ns ≤ most = law.few x f in
-    ap (λ (q : ℕ × ℕ). q.0) (a ∙ ap answer-of (writing-accepted Offr ns room (law.small-numbers x f) (omega (arith, length-spelling Offr ns))))
+    ap (λ (q : ℕ × ℕ). q.0) (a ∙ ap answer_of (writing_accepted Offr ns room (law.small_numbers x f) (omega (arith, length_spelling Offr ns))))
 
 -- what a writer of a fitting state's numbers promises, by the law of the trait
-pub state-line : {S : Type 0} (m : Meaning S) (numbers : S → List ℕ) (restored : List ℕ → Option S) → Numbered m numbers restored → (x : S) (out after : List ℕ) (r : ℕ × ℕ) → r ≡ answer-of (writing Offr (numbers x) (length out)) → after ≡ written Offr (numbers x) out → m.fits x ≡ true → r.0 ≡ 0 → StateLine restored x after
-state-line m numbers restored law x out after r a w f z =
-    let back = reads-back Offr (numbers x) out after r a w (le-leb (length (numbers x)) most (law.few x f), law.small-numbers x f) z in
+pub state_line : {S : Type 0} (m : Meaning S) (numbers : S → List ℕ) (restored : List ℕ → Option S) → Numbered m numbers restored → (x : S) (out after : List ℕ) (r : ℕ × ℕ) → r ≡ answer_of (writing Offr (numbers x) (length out)) → after ≡ written Offr (numbers x) out → m.fits x ≡ true → r.0 ≡ 0 → StateLine restored x after
+state_line m numbers restored law x out after r a w f z =
+    let back = reads_back Offr (numbers x) out after r a w (le-leb (length (numbers x)) most (law.few x f), law.small_numbers x f) z in
     record {
       begins = (numbers x, back.begins, law.restores x f);
       only = λ t ns b. let o = back.only t ns b in (o.0, ap restored o.1 ∙ law.restores x f);
-      one-spelling = λ ns e. subst (λ ms. Begins after Offr ms) (sym (law.one_list x ns f e)) back.begins;
+      one_spelling = λ ns e. subst (λ ms. Begins after Offr ms) (sym (law.one_list x ns f e)) back.begins;
     }
 
 -- numbers too many for a line are written, and no line of any numbers is then read
-pub long-unread : (ns out after : List ℕ) (r : ℕ × ℕ) → r ≡ answer-of (writing Offr ns (length out)) → after ≡ written Offr ns out → r.0 ≡ 0 → most < length ns → (ms : List ℕ) → Begins after Offr ms → ⊥
-long-unread ns out after r a w z h ms b =
-    let same : length ms ≡ length ns = ap length (only-written Offr ns out after r a w z Offr ms b).1 in
+pub long_unread : (ns out after : List ℕ) (r : ℕ × ℕ) → r ≡ answer_of (writing Offr ns (length out)) → after ≡ written Offr ns out → r.0 ≡ 0 → most < length ns → (ms : List ℕ) → Begins after Offr ms → ⊥
+long_unread ns out after r a w z h ms b =
+    let same : length ms ≡ length ns = ap length (only_written Offr ns out after r a w z Offr ms b).1 in
     let few : length ms ≤ most = leb-true (length ms) most b.0.0 in
     omega arith

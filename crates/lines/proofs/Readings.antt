@@ -2,63 +2,63 @@
 use Rattle.std.proofs.Common.{◌≡◌, ℕ, zero, suc, ◌+◌, ◌-◌, ◌<◌, ◌≤◌, true, false, leb, List, [], ◌∷◌, ◌++◌, length, get_or, take, drop, set, Some, None, Option, sym, refl, ap, ◌∙◌, subst, append_assoc, arith, length-append, length-drop, MatchOption}
 use Rattle.std.proofs.lemmas.List.{take_at, take-append-drop, take_more_set, drop-drop, drop_more}
 use Rattle.std.proofs.lemmas.Bool.{and_parts, and_from, leb-true, le-leb, eqb-true, both_ways}
-use Rattle.lines.specs.Spelling.{letters, column, columns, small, counts, spelling, tag-length, width, largest, most, feed, Allowed, Begins}
-use Rattle.systems.specs.Outcomes.{answer-of}
+use Rattle.lines.specs.Spelling.{letters, column, columns, small, counts, spelling, tag_length, width, largest, most, feed, Allowed, Begins}
+use Rattle.systems.specs.Outcomes.{answer_of}
 use Rattle.systems.specs.declared.outcome.Outcome.TheVariants.{Accepted, NotALine}
 use Rattle.lines.specs.Parts.{TagFirst, ColumnFirst, NumbersFirst}
 use Rattle.lines.specs.Reading.{input_of, ahead, no_line, Reads}
 use Rattle.lines.specs.declared.reader.LineReader.{LineReader}
 use Rattle.lines.specs.declared.tag.Tag.{Tag}
 use Rattle.lines.specs.declared.tag.Tag.TheVariants.{Plnt, Chrt, Inpt, Fixd, Verd, Step, Setl, Show, Rsrc, Lead, Task, Offr, Runs, Line}
-use Rattle.lines.proofs.Columns.{columns-push}
-use Rattle.lines.proofs.Lines.{length-letters, spelling-then, same_tag, same_after, not-feed, one-spelling}
+use Rattle.lines.proofs.Columns.{columns_push}
+use Rattle.lines.proofs.Lines.{length_letters, spelling_then, same_tag, same_after, not_feed, one_spelling}
 
 -- the tag: too few bytes, or letters that are some tag's or none's
-pub tag-short : (input : List ℕ) (p : ℕ) → length input - p < tag-length → (t : Tag) (rest : List ℕ) → TagFirst (drop p input) t rest → ⊥
-tag-short input p h t rest e =
-    omega (arith, ap length e, length-drop p input, length-append (letters t) rest, length-letters t)
+pub tag_short : (input : List ℕ) (p : ℕ) → length input - p < tag_length → (t : Tag) (rest : List ℕ) → TagFirst (drop p input) t rest → ⊥
+tag_short input p h t rest e =
+    omega (arith, ap length e, length-drop p input, length-append (letters t) rest, length_letters t)
 
-pub tag-found : (o : Option Tag) (input name : List ℕ) (p : ℕ) → p + tag-length ≤ length input → name ≡ take tag-length (drop p input) → MatchOption o ((t : Tag) → name ≡ letters t → ⊥) (λ t. name ≡ letters t) → MatchOption o ((t : Tag) (rest : List ℕ) → TagFirst (drop p input) t rest → ⊥) (λ t. (p + tag-length ≤ length input) × TagFirst (drop p input) t (drop (p + tag-length) input))
-tag-found None input name p l n h = λ t rest e. h t (n ∙ ap (take tag-length) e ∙ take_at (letters t) rest tag-length (length-letters t))
-tag-found (Some t) input name p l n h =
-    (l, sym (take-append-drop tag-length (drop p input)) ∙ ap (λ x. x ++ drop tag-length (drop p input)) (sym n ∙ h) ∙ ap (λ x. letters t ++ x) (drop-drop tag-length p input))
+pub tag_found : (o : Option Tag) (input name : List ℕ) (p : ℕ) → p + tag_length ≤ length input → name ≡ take tag_length (drop p input) → MatchOption o ((t : Tag) → name ≡ letters t → ⊥) (λ t. name ≡ letters t) → MatchOption o ((t : Tag) (rest : List ℕ) → TagFirst (drop p input) t rest → ⊥) (λ t. (p + tag_length ≤ length input) × TagFirst (drop p input) t (drop (p + tag_length) input))
+tag_found None input name p l n h = λ t rest e. h t (n ∙ ap (take tag_length) e ∙ take_at (letters t) rest tag_length (length_letters t))
+tag_found (Some t) input name p l n h =
+    (l, sym (take-append-drop tag_length (drop p input)) ∙ ap (λ x. x ++ drop tag_length (drop p input)) (sym n ∙ h) ∙ ap (λ x. letters t ++ x) (drop-drop tag_length p input))
 
 -- the numbers: what columns have in common with a line's goes on as that line does
 peel : (ns ms bs rest : List ℕ) → columns ns ++ bs ≡ columns ms ++ (feed ∷ rest) → (length ns ≤ length ms) × (bs ≡ columns (drop (length ns) ms) ++ (feed ∷ rest))
 peel [] ms bs rest e = (omega arith, e)
-peel (n ∷ ns) [] bs rest e = absurd (not-feed n (columns ns ++ bs) rest e)
+peel (n ∷ ns) [] bs rest e = absurd (not_feed n (columns ns ++ bs) rest e)
 peel (n ∷ ns) (m ∷ ms) bs rest e =
     let q : columns ns ++ bs ≡ columns ms ++ (feed ∷ rest) = cc in
     let r = peel ns ms bs rest q in
     (omega (arith, r.0), r.1)
 
-small-drop : (k : ℕ) (ns : List ℕ) → small ns ≡ true → small (drop k ns) ≡ true
-small-drop zero ns h = h
-small-drop (suc k) [] h = h
-small-drop (suc k) (n ∷ ns) h = small-drop k ns (and_parts (leb n largest) (small ns) h).1
+small_drop : (k : ℕ) (ns : List ℕ) → small ns ≡ true → small (drop k ns) ≡ true
+small_drop zero ns h = h
+small_drop (suc k) [] h = h
+small_drop (suc k) (n ∷ ns) h = small_drop k ns (and_parts (leb n largest) (small ns) h).1
 
-pub small-push : (ns : List ℕ) (n : ℕ) → small ns ≡ true → n ≤ largest → small (ns ++ n ∷ []) ≡ true
-small-push [] n h l = and_from (leb n largest) true (le-leb n largest l) refl
-small-push (m ∷ ns) n h l =
+pub small_push : (ns : List ℕ) (n : ℕ) → small ns ≡ true → n ≤ largest → small (ns ++ n ∷ []) ≡ true
+small_push [] n h l = and_from (leb n largest) true (le-leb n largest l) refl
+small_push (m ∷ ns) n h l =
     let p = and_parts (leb m largest) (small ns) h in
-    and_from (leb m largest) (small (ns ++ n ∷ [])) p.0 (small-push ns n p.1 l)
+    and_from (leb m largest) (small (ns ++ n ∷ [])) p.0 (small_push ns n p.1 l)
 
 -- no tag allows more than the most
-pub counts-few : (t : Tag) (n : ℕ) → counts t n ≡ true → n ≤ most
-counts-few Plnt n h = omega (arith, eqb-true n 0 h)
-counts-few Chrt n h = omega (arith, eqb-true n 0 h)
-counts-few Inpt n h = omega (arith, eqb-true n 0 h)
-counts-few Fixd n h = omega (arith, eqb-true n 0 h)
-counts-few Verd n h = omega (arith, eqb-true n 0 h)
-counts-few Step n h = omega (arith, eqb-true n 1 h)
-counts-few Setl n h = omega (arith, eqb-true n 1 h)
-counts-few Show n h = omega (arith, eqb-true n 1 h)
-counts-few Rsrc n h = omega (arith, eqb-true n 2 h)
-counts-few Lead n h = omega (arith, eqb-true n 3 h)
-counts-few Task n h = omega (arith, eqb-true n 9 h)
-counts-few Offr n h = leb-true n most h
-counts-few Runs n h = leb-true n most h
-counts-few Line n h = absurd (both_ways false refl h)
+pub counts_few : (t : Tag) (n : ℕ) → counts t n ≡ true → n ≤ most
+counts_few Plnt n h = omega (arith, eqb-true n 0 h)
+counts_few Chrt n h = omega (arith, eqb-true n 0 h)
+counts_few Inpt n h = omega (arith, eqb-true n 0 h)
+counts_few Fixd n h = omega (arith, eqb-true n 0 h)
+counts_few Verd n h = omega (arith, eqb-true n 0 h)
+counts_few Step n h = omega (arith, eqb-true n 1 h)
+counts_few Setl n h = omega (arith, eqb-true n 1 h)
+counts_few Show n h = omega (arith, eqb-true n 1 h)
+counts_few Rsrc n h = omega (arith, eqb-true n 2 h)
+counts_few Lead n h = omega (arith, eqb-true n 3 h)
+counts_few Task n h = omega (arith, eqb-true n 9 h)
+counts_few Offr n h = leb-true n most h
+counts_few Runs n h = leb-true n most h
+counts_few Line n h = absurd (both_ways false refl h)
 
 -- so many columns were read, and the bytes go on with these numbers and a line feed
 pub GoesOn : Tag → ℕ → List ℕ → List ℕ → List ℕ → Type 0
@@ -70,76 +70,76 @@ unfolding GoesOn
 not_line t all ns bs e h ms rest f =
     let p = peel ns ms bs rest (sym e ∙ f.1) in
     let l : length ns + length (drop (length ns) ms) ≡ length ms = omega (arith, length-drop (length ns) ms, p.0) in
-    h (drop (length ns) ms) rest (ap (counts t) l ∙ f.0.0, small-drop (length ns) ms f.0.1, p.1)
+    h (drop (length ns) ms) rest (ap (counts t) l ∙ f.0.0, small_drop (length ns) ms f.0.1, p.1)
 
 -- the four ways in which the bytes at a place do not go on
 module _ (t : Tag) (k : ℕ) (input : List ℕ) (at : ℕ) where
-  at-feed : (rest : List ℕ) → at < length input → drop at input ≡ feed ∷ rest → get_or input at 0 ≡ feed
-  at-feed rest h y = let e : get_or input at 0 ∷ drop (at + 1) input ≡ feed ∷ rest = sym (drop_more input at 0 h) ∙ y in cc
+  at_feed : (rest : List ℕ) → at < length input → drop at input ≡ feed ∷ rest → get_or input at 0 ≡ feed
+  at_feed rest h y = let e : get_or input at 0 ∷ drop (at + 1) input ≡ feed ∷ rest = sym (drop_more input at 0 h) ∙ y in cc
 
-  pub stop-column : at < length input → (get_or input at 0 ≡ feed → ⊥) → ((n : ℕ) (rest : List ℕ) → ColumnFirst (drop at input) n rest → ⊥) → (zs rest : List ℕ) → GoesOn t k (drop at input) zs rest → ⊥
+  pub stop_column : at < length input → (get_or input at 0 ≡ feed → ⊥) → ((n : ℕ) (rest : List ℕ) → ColumnFirst (drop at input) n rest → ⊥) → (zs rest : List ℕ) → GoesOn t k (drop at input) zs rest → ⊥
   unfolding GoesOn
-  stop-column h b g [] rest y = b (at-feed rest h y.2)
-  stop-column h b g (z ∷ zs) rest y =
+  stop_column h b g [] rest y = b (at_feed rest h y.2)
+  stop_column h b g (z ∷ zs) rest y =
       g z (columns zs ++ (feed ∷ rest)) (leb-true z largest (and_parts (leb z largest) (small zs) y.1).0, y.2)
 
-  pub stop-full : at < length input → (get_or input at 0 ≡ feed → ⊥) → k ≡ most → (zs rest : List ℕ) → GoesOn t k (drop at input) zs rest → ⊥
+  pub stop_full : at < length input → (get_or input at 0 ≡ feed → ⊥) → k ≡ most → (zs rest : List ℕ) → GoesOn t k (drop at input) zs rest → ⊥
   unfolding GoesOn
-  stop-full h b f [] rest y = b (at-feed rest h y.2)
-  stop-full h b f (z ∷ zs) rest y = omega (arith, counts-few t _ y.0)
+  stop_full h b f [] rest y = b (at_feed rest h y.2)
+  stop_full h b f (z ∷ zs) rest y = omega (arith, counts_few t _ y.0)
 
-  pub stop-end : length input ≤ at → (zs rest : List ℕ) → GoesOn t k (drop at input) zs rest → ⊥
+  pub stop_end : length input ≤ at → (zs rest : List ℕ) → GoesOn t k (drop at input) zs rest → ⊥
   unfolding GoesOn
-  stop-end h zs rest y = omega (arith, ap length y.2, length-drop at input, length-append (columns zs) (feed ∷ rest))
+  stop_end h zs rest y = omega (arith, ap length y.2, length-drop at input, length-append (columns zs) (feed ∷ rest))
 
-  pub stop-count : at < length input → get_or input at 0 ≡ feed → counts t k ≡ false → (zs rest : List ℕ) → GoesOn t k (drop at input) zs rest → ⊥
+  pub stop_count : at < length input → get_or input at 0 ≡ feed → counts t k ≡ false → (zs rest : List ℕ) → GoesOn t k (drop at input) zs rest → ⊥
   unfolding GoesOn
-  stop-count h b f [] rest y =
+  stop_count h b f [] rest y =
       let e : k + 0 ≡ k = omega arith in
       both_ways (counts t k) f (ap (counts t) (sym e) ∙ y.0)
-  stop-count h b f (z ∷ zs) rest y =
-      not-feed z (columns zs ++ (feed ∷ rest)) (drop (at + 1) input) (sym y.2 ∙ drop_more input at 0 h ∙ ap (λ x. x ∷ drop (at + 1) input) b)
+  stop_count h b f (z ∷ zs) rest y =
+      not_feed z (columns zs ++ (feed ∷ rest)) (drop (at + 1) input) (sym y.2 ∙ drop_more input at 0 h ∙ ap (λ x. x ∷ drop (at + 1) input) b)
 
 -- one more column was read
-pub column-next : (all ns bs rest : List ℕ) (k n : ℕ) → k < length ns → all ≡ columns (take k ns) ++ bs → bs ≡ column n ++ rest → all ≡ columns (take (k + 1) (set ns k n)) ++ rest
-column-next all ns bs rest k n h e q =
+pub column_next : (all ns bs rest : List ℕ) (k n : ℕ) → k < length ns → all ≡ columns (take k ns) ++ bs → bs ≡ column n ++ rest → all ≡ columns (take (k + 1) (set ns k n)) ++ rest
+column_next all ns bs rest k n h e q =
     let c : columns (take (k + 1) (set ns k n)) ≡ columns (take k ns) ++ column n =
-    ap columns (take_more_set ns k n h) ∙ columns-push (take k ns) n in
+    ap columns (take_more_set ns k n h) ∙ columns_push (take k ns) n in
     e ∙ ap (λ x. columns (take k ns) ++ x) q ∙ sym (append_assoc (columns (take k ns)) (column n) rest) ∙ ap (λ x. x ++ rest) (sym c)
 
 -- the place after a column is further on
-pub column-passed : (input : List ℕ) (at to n : ℕ) → at ≤ length input → to ≤ length input → drop at input ≡ column n ++ drop to input → to ≡ at + width
-column-passed input at to n h l e = omega (arith, ap length e, length-drop at input, length-drop to input, length-append (column n) (drop to input))
+pub column_passed : (input : List ℕ) (at to n : ℕ) → at ≤ length input → to ≤ length input → drop at input ≡ column n ++ drop to input → to ≡ at + width
+column_passed input at to n h l e = omega (arith, ap length e, length-drop at input, length-drop to input, length-append (column n) (drop to input))
 
 -- the line feed ends the line
-pub line-ends : (all ns ms input : List ℕ) (at : ℕ) → at < length input → get_or input at 0 ≡ feed → ns ≡ ms → all ≡ columns ms ++ drop at input → all ≡ columns ns ++ (feed ∷ drop (at + 1) input)
-line-ends all ns ms input at h b e q =
+pub line_ends : (all ns ms input : List ℕ) (at : ℕ) → at < length input → get_or input at 0 ≡ feed → ns ≡ ms → all ≡ columns ms ++ drop at input → all ≡ columns ns ++ (feed ∷ drop (at + 1) input)
+line_ends all ns ms input at h b e q =
     q ∙ ap (λ x. columns ms ++ x) (drop_more input at 0 h ∙ ap (λ x. x ∷ drop (at + 1) input) b) ∙ ap (λ x. columns x ++ (feed ∷ drop (at + 1) input)) (sym e)
 
 -- the whole line: no tag, no numbers after the tag, or both
-pub no-tag : (bs : List ℕ) → ((t : Tag) (rest : List ℕ) → TagFirst bs t rest → ⊥) → (u : Tag) (ms : List ℕ) → Begins bs u ms → ⊥
-no-tag bs h u ms b = h u (columns ms ++ (feed ∷ b.1.0)) (b.1.1 ∙ spelling-then u ms b.1.0)
+pub no_tag : (bs : List ℕ) → ((t : Tag) (rest : List ℕ) → TagFirst bs t rest → ⊥) → (u : Tag) (ms : List ℕ) → Begins bs u ms → ⊥
+no_tag bs h u ms b = h u (columns ms ++ (feed ∷ b.1.0)) (b.1.1 ∙ spelling_then u ms b.1.0)
 
-pub no-numbers : (bs mid : List ℕ) (t : Tag) → TagFirst bs t mid → ((ns rest : List ℕ) → NumbersFirst mid t ns rest → ⊥) → (u : Tag) (ms : List ℕ) → Begins bs u ms → ⊥
-no-numbers bs mid t e h u ms b =
-    let q : letters t ++ mid ≡ letters u ++ (columns ms ++ (feed ∷ b.1.0)) = sym e ∙ b.1.1 ∙ spelling-then u ms b.1.0 in
+pub no_numbers : (bs mid : List ℕ) (t : Tag) → TagFirst bs t mid → ((ns rest : List ℕ) → NumbersFirst mid t ns rest → ⊥) → (u : Tag) (ms : List ℕ) → Begins bs u ms → ⊥
+no_numbers bs mid t e h u ms b =
+    let q : letters t ++ mid ≡ letters u ++ (columns ms ++ (feed ∷ b.1.0)) = sym e ∙ b.1.1 ∙ spelling_then u ms b.1.0 in
     h ms b.1.0 (subst (λ v. Allowed v ms) (sym (same_tag t u _ _ q)) b.0, same_after t u _ _ q)
 
-pub tag-and-numbers : (bs mid rest : List ℕ) (t : Tag) (ns : List ℕ) → TagFirst bs t mid → mid ≡ columns ns ++ (feed ∷ rest) → bs ≡ spelling t ns ++ rest
-tag-and-numbers bs mid rest t ns e q = e ∙ ap (λ x. letters t ++ x) q ∙ sym (spelling-then t ns rest)
+pub tag_and_numbers : (bs mid rest : List ℕ) (t : Tag) (ns : List ℕ) → TagFirst bs t mid → mid ≡ columns ns ++ (feed ∷ rest) → bs ≡ spelling t ns ++ rest
+tag_and_numbers bs mid rest t ns e q = e ∙ ap (λ x. letters t ++ x) q ∙ sym (spelling_then t ns rest)
 
 -- what a reader promises where it refuses, and where it accepts
-pub refused-reads : (before after : LineReader) (answer : ℕ × ℕ) (line : Tag × List ℕ) → input_of after ≡ input_of before → answer ≡ answer-of NotALine → line ≡ no_line → after.place ≡ before.place → ((u : Tag) (ms : List ℕ) → Begins (ahead before) u ms → ⊥) → Reads before after answer line.0 line.1
-refused-reads before after answer line i a n p h = record {
-  same-input = i;
+pub refused_reads : (before after : LineReader) (answer : ℕ × ℕ) (line : Tag × List ℕ) → input_of after ≡ input_of before → answer ≡ answer_of NotALine → line ≡ no_line → after.place ≡ before.place → ((u : Tag) (ms : List ℕ) → Begins (ahead before) u ms → ⊥) → Reads before after answer line.0 line.1
+refused_reads before after answer line i a n p h = record {
+  same_input = i;
   accepted = λ z. absurd (omega (arith, ap (λ (r : ℕ × ℕ). r.0) a));
   complete = λ u ms b. absurd (h u ms b);
   passed = λ z. absurd (omega (arith, ap (λ (r : ℕ × ℕ). r.0) a));
   refused = λ _. (a, n, p);
 }
 
-pub accepted-reads : (before after : LineReader) (answer : ℕ × ℕ) (got : ℕ) (t u : Tag) (ns : List ℕ) → input_of after ≡ input_of before → answer ≡ answer-of (Accepted got) → after.place ≡ got → u ≡ t → Allowed t ns → ahead before ≡ spelling t ns ++ drop got (input_of before) → Reads before after answer u ns
-accepted-reads before after answer got t u ns i a p v f e =
+pub accepted_reads : (before after : LineReader) (answer : ℕ × ℕ) (got : ℕ) (t u : Tag) (ns : List ℕ) → input_of after ≡ input_of before → answer ≡ answer_of (Accepted got) → after.place ≡ got → u ≡ t → Allowed t ns → ahead before ≡ spelling t ns ++ drop got (input_of before) → Reads before after answer u ns
+accepted_reads before after answer got t u ns i a p v f e =
     let w : before.place ≤ length (input_of before) = before.within in
     let x : after.place ≤ length (input_of after) = after.within in
     let b : Begins (ahead before) t ns = (f, (drop got (input_of before), e)) in
@@ -147,9 +147,9 @@ accepted-reads before after answer got t u ns i a p v f e =
     omega (arith, ap length e, ap length i, length-drop before.place (input_of before), length-drop got (input_of before), length-append (spelling t ns) (drop got (input_of before))) in
     subst (λ y. Reads before after answer y ns) (sym v)
     (record {
-      same-input = i;
+      same_input = i;
       accepted = λ _. b;
-      complete = λ y ms d. let o = one-spelling (ahead before) t y ns ms b d in (ap (λ (r : ℕ × ℕ). r.0) a, o.0, o.1);
-      passed = λ _. (a ∙ ap (λ k. answer-of (Accepted k)) (sym p), l);
+      complete = λ y ms d. let o = one_spelling (ahead before) t y ns ms b d in (ap (λ (r : ℕ × ℕ). r.0) a, o.0, o.1);
+      passed = λ _. (a ∙ ap (λ k. answer_of (Accepted k)) (sym p), l);
       refused = λ z. absurd (z (ap (λ (r : ℕ × ℕ). r.0) a));
     })

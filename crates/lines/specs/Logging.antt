@@ -8,7 +8,7 @@ use Rattle.lines.specs.declared.tag.Tag.TheVariants.{Offr}
 -- the numbers of a state that fits make a line, which is restored to the state; no other numbers are
 pub record Numbered {S : Type 0} (m : Meaning S) (numbers : S → List ℕ) (restored : List ℕ → Option S) : Type 0 where
   pub few : (x : S) → m.fits x ≡ true → length (numbers x) ≤ most
-  pub small-numbers : (x : S) → m.fits x ≡ true → small (numbers x) ≡ true
+  pub small_numbers : (x : S) → m.fits x ≡ true → small (numbers x) ≡ true
   pub restores : (x : S) → m.fits x ≡ true → restored (numbers x) ≡ Some x
   pub one_list : (x : S) (ns : List ℕ) → m.fits x ≡ true → restored ns ≡ Some x → ns ≡ numbers x
 
@@ -16,4 +16,4 @@ pub record Numbered {S : Type 0} (m : Meaning S) (numbers : S → List ℕ) (res
 pub record StateLine {S : Type 0} (restored : List ℕ → Option S) (x : S) (bs : List ℕ) : Type 0 where
   pub begins : (ns : List ℕ) × Begins bs Offr ns × (restored ns ≡ Some x)
   pub only : (t : Tag) (ns : List ℕ) → Begins bs t ns → (t ≡ Offr) × (restored ns ≡ Some x)
-  pub one-spelling : (ns : List ℕ) → restored ns ≡ Some x → Begins bs Offr ns
+  pub one_spelling : (ns : List ℕ) → restored ns ≡ Some x → Begins bs Offr ns

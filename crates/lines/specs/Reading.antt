@@ -1,9 +1,9 @@
 -- What reading answers, and where it leaves the place.
 use Rattle.std.specs.Prelude.{◌≡◌, ℕ, zero, suc, ◌+◌, ◌-◌, ◌*◌, ◌/◌, cond, ◌&&◌, List, [], ◌∷◌, length, take, drop, Some, None, Option, ◌==◌, ◌≢◌}
 use Rattle.std.specs.Str.{bytes_eq}
-use Rattle.systems.specs.Outcomes.{answer-of}
+use Rattle.systems.specs.Outcomes.{answer_of}
 use Rattle.systems.specs.declared.outcome.Outcome.TheVariants.{Accepted, NotALine}
-use Rattle.lines.specs.Spelling.{letters, spelling, counts, small, tag-length, width, feed, zero-digit, Begins}
+use Rattle.lines.specs.Spelling.{letters, spelling, counts, small, tag_length, width, feed, zero_digit, Begins}
 use Rattle.lines.specs.declared.line.Line.{Line as LineRead}
 use Rattle.lines.specs.declared.reader.LineReader.{LineReader}
 use Rattle.lines.specs.declared.tag.Tag.{Tag}
@@ -26,11 +26,11 @@ ahead r = drop r.place (input_of r)
 
 -- a line is accepted exactly when the bytes ahead begin with its spelling, and only then does the place move, past that line
 pub record Reads (before after : LineReader) (answer : ℕ × ℕ) (t : Tag) (ns : List ℕ) : Type 0 where
-  pub same-input : input_of after ≡ input_of before
+  pub same_input : input_of after ≡ input_of before
   pub accepted : answer.0 ≡ 0 → Begins (ahead before) t ns
   pub complete : (u : Tag) (ms : List ℕ) → Begins (ahead before) u ms → (answer.0 ≡ 0) × (t ≡ u) × (ns ≡ ms)
-  pub passed : answer.0 ≡ 0 → (answer ≡ answer-of (Accepted after.place)) × (after.place ≡ before.place + length (spelling t ns))
-  pub refused : (answer.0 ≢ 0) → (answer ≡ answer-of NotALine) × ((t, ns) ≡ no_line) × (after.place ≡ before.place)
+  pub passed : answer.0 ≡ 0 → (answer ≡ answer_of (Accepted after.place)) × (after.place ≡ before.place + length (spelling t ns))
+  pub refused : (answer.0 ≢ 0) → (answer ≡ answer_of NotALine) × ((t, ns) ≡ no_line) × (after.place ≡ before.place)
 
 -- the bytes up to the next line feed and with it, or all where there is none
 abbrev pub piece : List ℕ → List ℕ
@@ -38,8 +38,8 @@ piece [] = []
 piece (b ∷ bs) = cond (b == feed) (b ∷ []) (b ∷ piece bs)
 
 -- the place after the next line feed, or the end
-abbrev pub past-piece : LineReader → ℕ
-past-piece r = r.place + length (piece (ahead r))
+abbrev pub past_piece : LineReader → ℕ
+past_piece r = r.place + length (piece (ahead r))
 
 -- all tags
 abbrev pub tags : List Tag
@@ -51,28 +51,28 @@ tag_of bs [] = None
 tag_of bs (t ∷ ts) = cond (bytes_eq bs (letters t)) (Some t) (tag_of bs ts)
 
 -- what bytes are worth as digits; a space is worth nothing
-abbrev pub worth-after : ℕ → List ℕ → ℕ
-worth-after n [] = n
-worth-after n (b ∷ bs) = worth-after (n * 10 + (b - zero-digit)) bs
+abbrev pub worth_after : ℕ → List ℕ → ℕ
+worth_after n [] = n
+worth_after n (b ∷ bs) = worth_after (n * 10 + (b - zero_digit)) bs
 
 abbrev pub worth : List ℕ → ℕ
-worth bs = worth-after 0 bs
+worth bs = worth_after 0 bs
 
 -- what each of so many columns is worth
 abbrev pub worths : ℕ → List ℕ → List ℕ
 worths zero bs = []
 worths (suc k) bs = worth (take width bs) ∷ worths k (drop width bs)
 
-abbrev pub if-spelled : List ℕ → Tag → List ℕ → Option (Tag × List ℕ)
-if-spelled p t ns = cond (counts t (length ns) && (small ns && bytes_eq p (spelling t ns))) (Some (t, ns)) None
+abbrev pub if_spelled : List ℕ → Tag → List ℕ → Option (Tag × List ℕ)
+if_spelled p t ns = cond (counts t (length ns) && (small ns && bytes_eq p (spelling t ns))) (Some (t, ns)) None
 
-abbrev pub line-tagged : List ℕ → Option Tag → Option (Tag × List ℕ)
-line-tagged p None = None
-line-tagged p (Some t) = if-spelled p t (worths ((length p - tag-length) / width) (drop tag-length p))
+abbrev pub line_tagged : List ℕ → Option Tag → Option (Tag × List ℕ)
+line_tagged p None = None
+line_tagged p (Some t) = if_spelled p t (worths ((length p - tag_length) / width) (drop tag_length p))
 
 -- the line that a piece is, if it is one: what its bytes are worth, provided that they are its spelling
 unfoldable pub line_of : List ℕ → Option (Tag × List ℕ)
-line_of p = line-tagged p (tag_of (take tag-length p) tags)
+line_of p = line_tagged p (tag_of (take tag_length p) tags)
 
 -- what is heard of a piece
 abbrev pub heard : Option (Tag × List ℕ) → Tag × List ℕ
@@ -85,6 +85,6 @@ LineExact = (bs : List ℕ) (t : Tag) (ns : List ℕ) → (line_of (piece bs) �
 
 -- the next piece is passed, and the line is the one that it is, or LINE with no numbers where it is none
 pub record Hears (before after : LineReader) (line : Tag × List ℕ) : Type 0 where
-  pub same-input : input_of after ≡ input_of before
-  pub passed : after.place ≡ past-piece before
-  pub said-so : line ≡ heard (line_of (piece (ahead before)))
+  pub same_input : input_of after ≡ input_of before
+  pub passed : after.place ≡ past_piece before
+  pub said_so : line ≡ heard (line_of (piece (ahead before)))

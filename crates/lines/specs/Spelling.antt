@@ -4,8 +4,8 @@ use Rattle.lines.specs.declared.tag.Tag.{Tag}
 use Rattle.lines.specs.declared.tag.Tag.TheVariants.{Plnt, Chrt, Inpt, Fixd, Verd, Step, Setl, Show, Rsrc, Lead, Task, Offr, Runs, Line}
 
 -- the letters of a tag, the places of a column, the largest number that they hold, and the most numbers of a line
-abbrev pub tag-length : ℕ
-tag-length = 4
+abbrev pub tag_length : ℕ
+tag_length = 4
 
 abbrev pub width : ℕ
 width = 6
@@ -18,7 +18,7 @@ most = 32
 
 -- the bytes of the longest line: a tag, the most columns, and a line feed
 abbrev pub longest : ℕ
-longest = tag-length + width * most + 1
+longest = tag_length + width * most + 1
 
 -- bytes: line feed, space, and the digit zero
 abbrev pub feed : ℕ
@@ -27,8 +27,8 @@ feed = 10
 abbrev pub space : ℕ
 space = 32
 
-abbrev pub zero-digit : ℕ
-zero-digit = 48
+abbrev pub zero_digit : ℕ
+zero_digit = 48
 
 abbrev pub letters : Tag → List ℕ
 letters Plnt = codes "PLNT"
@@ -65,16 +65,16 @@ counts Line n = false
 
 -- the last digit of a number
 abbrev pub digit : ℕ → ℕ
-digit n = zero-digit + n % 10
+digit n = zero_digit + n % 10
 
 -- the same, but a space where nothing is left of the number
-abbrev pub digit-or-space : ℕ → ℕ
-digit-or-space n = cond (n == 0) space (digit n)
+abbrev pub digit_or_space : ℕ → ℕ
+digit_or_space n = cond (n == 0) space (digit n)
 
 -- what is left of a number, right-justified in so many places
 abbrev pub justified : ℕ → ℕ → List ℕ
 justified zero n = []
-justified (suc places) n = justified places (n / 10) ++ digit-or-space n ∷ []
+justified (suc places) n = justified places (n / 10) ++ digit_or_space n ∷ []
 
 -- a number in a column, right-justified: spaces before, no leading zero, and at least one digit
 abbrev pub column : ℕ → List ℕ

@@ -1,6 +1,6 @@
 // Numbers in columns.
 ghost use Rattle.std.specs.Prelude.{◌≡◌, ℕ, ◌+◌, ◌-◌, ◌≤◌, List, length, take, drop, Decides, MatchOption};
-ghost use Rattle.lines.specs.Spelling.{digit as lastDigit, digit-or-space as spaced, column as columnOf, width, zero-digit};
+ghost use Rattle.lines.specs.Spelling.{digit as lastDigit, digit_or_space as spaced, column as columnOf, width, zero_digit};
 ghost use Rattle.lines.specs.Parts.{ColumnFirst};
 ghost use Rattle.lines.specs.Reading.{worth as worthOf};
 
@@ -45,7 +45,7 @@ pub(crate) fn column(number: u32) -> [u8; COLUMN]
 
 // What a byte is worth as a digit; a space is worth nothing.
 fn worth(byte: u8) -> u32
-    ensures { result ≡ byte - zero-digit }
+    ensures { result ≡ byte - zero_digit }
 {
     u32::from(byte.saturating_sub(b'0'))
 }

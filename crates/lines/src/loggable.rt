@@ -1,6 +1,6 @@
 // Systems whose states can be written as lines.
 ghost use Rattle.std.specs.Prelude.{◌≡◌, ℕ, ◌<◌, ◌≤◌, true, List, length, Some, None, Option as Maybe, ◌≢◌};
-ghost use Rattle.systems.specs.Outcomes.{answer-of};
+ghost use Rattle.systems.specs.Outcomes.{answer_of};
 ghost use Rattle.lines.specs.declared.tag.Tag.TheVariants.{Offr};
 ghost use Rattle.lines.specs.Spelling.{most, longest, Begins};
 ghost use Rattle.lines.specs.Reading.{said};
@@ -20,7 +20,7 @@ pub trait Loggable: System {
 
     // Writes a state as a line at the front of the buffer, and answers its length.
     fn write(&self, state: &Self::State, out: &mut [u8]) -> (u32, usize)
-        ensures answer { result ≡ answer-of (writing Offr (numbers self.now state.now) (length out.old)) }
+        ensures answer { result ≡ answer_of (writing Offr (numbers self.now state.now) (length out.old)) }
         ensures after { out.new ≡ written Offr (numbers self.now state.now) out.old }
         ensures back { (Self.System.meaning self.now).fits state.now ≡ true → result.0 ≡ 0 → StateLine (restored self.now) state.now out.new };
 
@@ -59,7 +59,7 @@ pub fn reread<L: Loggable>(
     state: &L::State,
     buffer: &mut [u8],
 ) -> ((u32, usize), Option<L::State>)
-    ensures answer { result.0 ≡ answer-of (writing Offr (L.Loggable.numbers system.now state.now) (length buffer.old)) }
+    ensures answer { result.0 ≡ answer_of (writing Offr (L.Loggable.numbers system.now state.now) (length buffer.old)) }
     ensures after { buffer.new ≡ written Offr (L.Loggable.numbers system.now state.now) buffer.old }
     ensures refused { (result.0.0 ≢ 0) → result.1 ≡ None }
     ensures accepted { result.0.0 ≡ 0 → length (L.Loggable.numbers system.now state.now) ≤ most → result.1 ≡ L.Loggable.restored system.now (L.Loggable.numbers system.now state.now) }

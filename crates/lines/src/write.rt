@@ -1,7 +1,7 @@
 // Writing a line into a buffer that is lent.
 ghost use Rattle.std.specs.Prelude.{◌≡◌, ◌+◌, ◌*◌, ◌≤◌, ◌++◌, length, take, drop, if◌then◌else◌};
-ghost use Rattle.systems.specs.Outcomes.{answer-of, accepts};
-ghost use Rattle.lines.specs.Spelling.{small, spelling, columns, tag-length, width, Allowed};
+ghost use Rattle.systems.specs.Outcomes.{answer_of, accepts};
+ghost use Rattle.lines.specs.Spelling.{small, spelling, columns, tag_length, width, Allowed};
 ghost use Rattle.lines.specs.Writing.{fitted, writing, written, over, ReadsBack};
 
 use crate::column::{COLUMN, LARGEST, column};
@@ -42,7 +42,7 @@ fn put_columns(out: &mut [u8], start: usize, numbers: &[u32])
 
 // Writes a line that there is room for.
 fn spell(tag: Tag, numbers: &[u32], out: &mut [u8])
-    requires { tag-length + width * length numbers.now + 1 ≤ length out.old }
+    requires { tag_length + width * length numbers.now + 1 ≤ length out.old }
     ensures { out.new ≡ over (spelling tag numbers.now) out.old }
 {
     put(out, 0, &tag.name());
@@ -52,7 +52,7 @@ fn spell(tag: Tag, numbers: &[u32], out: &mut [u8])
 
 // Writes a line if its numbers are small and there is room.
 fn write_line(tag: Tag, numbers: &[u32], out: &mut [u8]) -> Outcome
-    ensures outcome { result ≡ fitted (small numbers.now) (tag-length + width * length numbers.now + 1) (length out.old) }
+    ensures outcome { result ≡ fitted (small numbers.now) (tag_length + width * length numbers.now + 1) (length out.old) }
     ensures after { out.new ≡ (if accepts result then over (spelling tag numbers.now) out.old else out.old) }
 {
     if !all_small(numbers) {
@@ -68,7 +68,7 @@ fn write_line(tag: Tag, numbers: &[u32], out: &mut [u8]) -> Outcome
 
 // Writes a line at the front of the buffer, and answers its length.
 pub fn write(tag: Tag, numbers: &[u32], out: &mut [u8]) -> (u32, usize)
-    ensures answer { result ≡ answer-of (writing tag numbers.now (length out.old)) }
+    ensures answer { result ≡ answer_of (writing tag numbers.now (length out.old)) }
     ensures after { out.new ≡ written tag numbers.now out.old }
     ensures back { Allowed tag numbers.now → result.0 ≡ 0 → ReadsBack tag numbers.now out.new }
 {

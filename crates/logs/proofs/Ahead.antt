@@ -2,24 +2,24 @@
 use Rattle.std.proofs.Common.{◌≡◌, ℕ, ◌+◌, ◌-◌, ◌/◌, ◌<◌, ◌≤◌, Bool, true, false, cond, ◌&&◌, eqb, List, [], ◌∷◌, map, length, get_or, take, drop, Some, None, Option, sym, refl, ap, ◌∙◌, subst, arith, lit≤}
 use Rattle.std.proofs.lemmas.List.{drop_more, drop-drop, drop_all}
 use Rattle.std.proofs.lemmas.Bool.{cond_both, both_ways, and_parts}
-use Rattle.lines.specs.Spelling.{feed, counts, most, tag-length, width}
-use Rattle.lines.specs.Reading.{input_of, ahead, piece, line_of, line-tagged, if-spelled, worths, tag_of, tags, heard, Hears}
+use Rattle.lines.specs.Spelling.{feed, counts, most, tag_length, width}
+use Rattle.lines.specs.Reading.{input_of, ahead, piece, line_of, line_tagged, if_spelled, worths, tag_of, tags, heard, Hears}
 use Rattle.lines.specs.declared.reader.LineReader.{LineReader}
 use Rattle.lines.specs.declared.tag.Tag.{Tag}
-use Rattle.lines.proofs.Readings.{counts-few}
+use Rattle.lines.proofs.Readings.{counts_few}
 use Rattle.logs.specs.Answers.{Said}
-use Rattle.logs.specs.Pieces.{onto, pieces, lines-in, lines-ahead}
+use Rattle.logs.specs.Pieces.{onto, pieces, lines_in, lines_ahead}
 
-onto-pieces : (b : ℕ) (bs : List ℕ) → ((c : ℕ) (cs : List ℕ) → bs ≡ c ∷ cs → pieces bs ≡ piece bs ∷ pieces (drop (length (piece bs)) bs)) → onto b (pieces bs) ≡ (b ∷ piece bs) ∷ pieces (drop (length (piece bs)) bs)
-onto-pieces b [] h = refl
-onto-pieces b (c ∷ cs) h = ap (onto b) (h c cs refl)
+onto_pieces : (b : ℕ) (bs : List ℕ) → ((c : ℕ) (cs : List ℕ) → bs ≡ c ∷ cs → pieces bs ≡ piece bs ∷ pieces (drop (length (piece bs)) bs)) → onto b (pieces bs) ≡ (b ∷ piece bs) ∷ pieces (drop (length (piece bs)) bs)
+onto_pieces b [] h = refl
+onto_pieces b (c ∷ cs) h = ap (onto b) (h c cs refl)
 
 -- the first piece, and those after it
-pieces-first : (bs : List ℕ) (c : ℕ) (cs : List ℕ) → bs ≡ c ∷ cs → pieces bs ≡ piece bs ∷ pieces (drop (length (piece bs)) bs)
-pieces-first [] c cs e = let z : ◌≡◌ {A = ℕ} 0 1 = cc in absurd (omega arith)
-pieces-first (b ∷ bs) c cs e =
+pieces_first : (bs : List ℕ) (c : ℕ) (cs : List ℕ) → bs ≡ c ∷ cs → pieces bs ≡ piece bs ∷ pieces (drop (length (piece bs)) bs)
+pieces_first [] c cs e = let z : ◌≡◌ {A = ℕ} 0 1 = cc in absurd (omega arith)
+pieces_first (b ∷ bs) c cs e =
     let Q : Bool → Type 0 = λ t. cond t ((b ∷ []) ∷ pieces bs) (onto b (pieces bs)) ≡ cond t (b ∷ []) (b ∷ piece bs) ∷ pieces (drop (length (cond t (b ∷ []) (b ∷ piece bs))) (b ∷ bs)) in
-    elim (eqb b feed) as Q [ true ↦ refl | false ↦ onto-pieces b bs (λ d ds q. pieces-first bs d ds q) ]
+    elim (eqb b feed) as Q [ true ↦ refl | false ↦ onto_pieces b bs (λ d ds q. pieces_first bs d ds q) ]
 
 -- a reader that is not at its end has passed the first of its lines
 not_end : (place len : ℕ) (r : Bool) → place ≤ len → (place ≡ len → r ≡ true) → r ≡ false → place < len
@@ -29,46 +29,46 @@ module _ {before after : LineReader} {line : Said} (h : Hears before after line)
   inside : before.place < length (input_of before)
   inside = not_end _ _ at-end before.within e f
 
-  pub ahead_more : lines-ahead before ≡ line ∷ lines-ahead after
+  pub ahead_more : lines_ahead before ≡ line ∷ lines_ahead after
   ahead_more =
       let at = before.place in
       let input = input_of before in
       let n = length (piece (drop at input)) in
-      ap (map (λ p. heard (line_of p))) (pieces-first (drop at input) (get_or input at 0) (drop (at + 1) input) (drop_more input at 0 inside))
-      ∙ ap (λ (bs : List ℕ). heard (line_of (piece (drop at input))) ∷ lines-in bs) (drop-drop n at input ∙ ap (λ k. drop k input) (sym h.passed) ∙ ap (drop after.place) (sym h.same-input))
-      ∙ ap (λ (l : Said). l ∷ lines-ahead after) (sym h.said-so)
+      ap (map (λ p. heard (line_of p))) (pieces_first (drop at input) (get_or input at 0) (drop (at + 1) input) (drop_more input at 0 inside))
+      ∙ ap (λ (bs : List ℕ). heard (line_of (piece (drop at input))) ∷ lines_in bs) (drop-drop n at input ∙ ap (λ k. drop k input) (sym h.passed) ∙ ap (drop after.place) (sym h.same_input))
+      ∙ ap (λ (l : Said). l ∷ lines_ahead after) (sym h.said_so)
 
-  piece-some : 0 < length (piece (ahead before))
-  piece-some =
+  piece_some : 0 < length (piece (ahead before))
+  piece_some =
       let at = before.place in
       let input = input_of before in
       subst (λ bs. 0 < length (piece bs)) (sym (drop_more input at 0 inside))
       (cond_both (eqb (get_or input at 0) feed) (get_or input at 0 ∷ []) (get_or input at 0 ∷ piece (drop (at + 1) input)) (λ p. 0 < length p) (λ _. omega arith) (λ _. omega arith))
 
-  pub ahead-less : length (input_of after) - after.place < length (input_of before) - before.place
-  ahead-less = omega (arith, ap length h.same-input, h.passed, piece-some, inside)
+  pub ahead_less : length (input_of after) - after.place < length (input_of before) - before.place
+  ahead_less = omega (arith, ap length h.same_input, h.passed, piece_some, inside)
 
 -- a reader at its end has no line ahead
-pub ahead_none : (r : LineReader) → r.place ≡ length (input_of r) → lines-ahead r ≡ []
-ahead_none r e = ap lines-in (drop_all r.place (input_of r) (omega arith))
+pub ahead_none : (r : LineReader) → r.place ≡ length (input_of r) → lines_ahead r ≡ []
+ahead_none r e = ap lines_in (drop_all r.place (input_of r) (omega arith))
 
 -- what is heard has few numbers, since no tag allows more than the most
 abbrev Few : Option Said → Type 0
 Few o = length (heard o).1 ≤ most
 
-few-spelled : (p : List ℕ) (t : Tag) (ns : List ℕ) → Few (if-spelled p t ns)
-few-spelled p t ns =
+few_spelled : (p : List ℕ) (t : Tag) (ns : List ℕ) → Few (if_spelled p t ns)
+few_spelled p t ns =
     cond_both (counts t (length ns) && _) (Some (t, ns)) None Few
-    (λ e. counts-few t (length ns) (and_parts (counts t (length ns)) _ e).0)
+    (λ e. counts_few t (length ns) (and_parts (counts t (length ns)) _ e).0)
     (λ _. lit≤ tt)
 
-few-tagged : (p : List ℕ) (o : Option Tag) → Few (line-tagged p o)
-few-tagged p None = lit≤ tt
-few-tagged p (Some t) = few-spelled p t (worths ((length p - tag-length) / width) (drop tag-length p))
+few_tagged : (p : List ℕ) (o : Option Tag) → Few (line_tagged p o)
+few_tagged p None = lit≤ tt
+few_tagged p (Some t) = few_spelled p t (worths ((length p - tag_length) / width) (drop tag_length p))
 
-pub few-heard : (p : List ℕ) → Few (line_of p)
+pub few_heard : (p : List ℕ) → Few (line_of p)
 unfolding line_of
-few-heard p = few-tagged p (tag_of (take tag-length p) tags)
+few_heard p = few_tagged p (tag_of (take tag_length p) tags)
 
-pub heard-few : {before after : LineReader} {line : Said} → Hears before after line → length line.1 ≤ most
-heard-few {before} h = subst (λ (l : Said). length l.1 ≤ most) (sym h.said-so) (few-heard (piece (ahead before)))
+pub heard_few : {before after : LineReader} {line : Said} → Hears before after line → length line.1 ≤ most
+heard_few {before} h = subst (λ (l : Said). length l.1 ≤ most) (sym h.said_so) (few_heard (piece (ahead before)))

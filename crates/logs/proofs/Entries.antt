@@ -5,47 +5,47 @@ use Rattle.std.proofs.lemmas.Bool.{cond_both, ltb-true}
 use Rattle.systems.specs.declared.outcome.Outcome.{Outcome}
 use Rattle.systems.specs.declared.outcome.Outcome.TheVariants.{Accepted, FieldOutside, NoRoom, NotEntered, GapsUnlike}
 use Rattle.policies.specs.Classes.{classes}
-use Rattle.policies.specs.Orders.{earliest-deadline, preemptive}
-use Rattle.charts.specs.Entries.{most-steps, most-inputs, add_step, add-input, set-lead}
+use Rattle.policies.specs.Orders.{earliest_deadline, preemptive}
+use Rattle.charts.specs.Entries.{most_steps, most_inputs, add_step, add_input, set_lead}
 use Rattle.charts.specs.declared.entries.Entries.{Entries}
 use Rattle.charts.proofs.Valid.{Valid as ChartValid}
-use Rattle.plants.specs.Limits.{most-ticks, most-resources, most-tasks}
+use Rattle.plants.specs.Limits.{most_ticks, most_resources, most_tasks}
 use Rattle.systems.specs.Lowest.{lowest}
 use Rattle.plants.specs.Layouts.{is_within, unlike, valid}
-use Rattle.plants.specs.Entries.{resource-comes-to, outside-field, if-inside, task-comes-to}
+use Rattle.plants.specs.Entries.{resource_comes_to, outside_field, if_inside, task_comes_to}
 use Rattle.plants.specs.declared.layout.Layout.{Layout}
 use Rattle.plants.specs.declared.layout.TaskEntry.{TaskEntry}
-use Rattle.plants.specs.Entered.{Valid, valid-parts}
+use Rattle.plants.specs.Entered.{Valid, valid_parts}
 use Rattle.lines.specs.Spelling.{largest}
 use Rattle.lines.specs.declared.tag.Tag.{Tag}
 use Rattle.lines.specs.declared.tag.Tag.TheVariants.{Fixd, Rsrc, Task, Step, Inpt, Lead}
 use Rattle.logs.specs.declared.opening.Kind.{Kind}
 use Rattle.logs.specs.Answers.{is, nth, unheard}
-use Rattle.logs.specs.Turns.{opening, plant-reply, task-of, chart-reply}
-use Rattle.logs.proofs.Served.{Small, fits, unheard-small}
+use Rattle.logs.specs.Turns.{opening, plant_reply, task_of, chart_reply}
+use Rattle.logs.proofs.Served.{Small, fits, unheard_small}
 
 -- the field that is outside its range is one of seven
 module _ (rest : Outcome) (h : Small rest) where
   abbrev Fits : Option ℕ → Type 0
-  Fits o = Small (if-inside o rest)
+  Fits o = Small (if_inside o rest)
 
   field : (b : Bool) (k : ℕ) (o : Option ℕ) → k ≤ 9 → Fits o → Fits (cond b (Some k) o)
   field b k o few ok = cond_both b (Some k) o Fits (λ _. fits 3 k (lit≤ tt) (omega arith)) (λ _. ok)
 
-  fields : (e : TaskEntry) → Fits (outside-field e)
+  fields : (e : TaskEntry) → Fits (outside_field e)
   fields e =
-      field (not (is_within 0 most-ticks e.offset)) 1 _ (lit≤ tt)
-      (field (not (is_within 1 most-ticks e.least)) 2 _ (lit≤ tt)
-      (field (not (is_within e.least most-ticks e.greatest)) 3 _ (lit≤ tt)
-      (field (not (is_within 1 most-ticks e.best)) 4 _ (lit≤ tt)
-      (field (not (is_within e.best most-ticks e.worst)) 5 _ (lit≤ tt)
+      field (not (is_within 0 most_ticks e.offset)) 1 _ (lit≤ tt)
+      (field (not (is_within 1 most_ticks e.least)) 2 _ (lit≤ tt)
+      (field (not (is_within e.least most_ticks e.greatest)) 3 _ (lit≤ tt)
+      (field (not (is_within 1 most_ticks e.best)) 4 _ (lit≤ tt)
+      (field (not (is_within e.best most_ticks e.worst)) 5 _ (lit≤ tt)
       (field (not (is_within 1 e.least e.deadline)) 6 _ (lit≤ tt)
       (field (leb classes e.class) 7 None (lit≤ tt) h))))))
 
-pub task-small : (l : Layout) (e : TaskEntry) → l.count ≤ most-tasks → Small (task-comes-to l e)
-task-small l e few =
+pub task_small : (l : Layout) (e : TaskEntry) → l.count ≤ most_tasks → Small (task_comes_to l e)
+task_small l e few =
     let j = lowest (unlike l e) l.count in
-    cond_both (eqb l.count most-tasks) NoRoom _ Small
+    cond_both (eqb l.count most_tasks) NoRoom _ Small
     (λ _. fits 4 0 (lit≤ tt) (lit≤ tt))
     (λ _. fields _
     (cond_both (leb l.resource_count e.resource) (NotEntered 8) _ Small
@@ -58,50 +58,50 @@ task-small l e few =
     e)
 
 -- a plant has few tasks, so its choices have numbers that fit a column
-pub few-choices : (l : Layout) → valid l ≡ true → 4 ^ l.count ≤ largest
-few-choices l v = omega (arith, pow-le-pow_right {n = 4} (lit< tt) (valid-parts l v).tasks-few)
+pub few_choices : (l : Layout) → valid l ≡ true → 4 ^ l.count ≤ largest
+few_choices l v = omega (arith, pow-le-pow_right {n = 4} (lit< tt) (valid_parts l v).tasks_few)
 
 -- the other lines before a session
-pub opening-small : (k : Option Kind) (tag : Tag) → Small (opening k tag)
-opening-small None tag = unheard-small tag
-opening-small (Some k) tag = fits 0 0 (lit≤ tt) (lit≤ tt)
+pub opening_small : (k : Option Kind) (tag : Tag) → Small (opening k tag)
+opening_small None tag = unheard_small tag
+opening_small (Some k) tag = fits 0 0 (lit≤ tt) (lit≤ tt)
 
-resource-small : (l : Layout) (a b : ℕ) → Valid l → Small (resource-comes-to l a b)
-resource-small l a b v =
-    cond_both (eqb l.resource_count most-resources) NoRoom _ Small
+resource_small : (l : Layout) (a b : ℕ) → Valid l → Small (resource_comes_to l a b)
+resource_small l a b v =
+    cond_both (eqb l.resource_count most_resources) NoRoom _ Small
     (λ _. fits 4 0 (lit≤ tt) (lit≤ tt))
-    (λ _. cond_both (ltb earliest-deadline a) (FieldOutside 1) _ Small
+    (λ _. cond_both (ltb earliest_deadline a) (FieldOutside 1) _ Small
     (λ _. fits 3 1 (lit≤ tt) (lit≤ tt))
     (λ _. cond_both (ltb preemptive b) (FieldOutside 2) (Accepted l.resource_count) Small
     (λ _. fits 3 2 (lit≤ tt) (lit≤ tt))
-    (λ _. fits 0 _ (lit≤ tt) (omega (arith, v.resources-few)))))
+    (λ _. fits 0 _ (lit≤ tt) (omega (arith, v.resources_few)))))
 
-pub plant-reply-small : (l : Layout) (tag : Tag) (ns : List ℕ) → Valid l → Small (plant-reply l tag ns)
-plant-reply-small l tag ns v =
-    cond_both (is Rsrc tag) (resource-comes-to l (nth ns 0) (nth ns 1)) _ Small (λ _. resource-small l (nth ns 0) (nth ns 1) v)
-    (λ _. cond_both (is Task tag) (task-comes-to l (task-of ns)) _ Small (λ _. task-small l (task-of ns) v.tasks-few)
-    (λ _. cond_both (is Fixd tag) (Accepted l.count) (unheard tag) Small (λ _. fits 0 _ (lit≤ tt) (omega (arith, v.tasks-few))) (λ _. unheard-small tag)))
+pub plant_reply_small : (l : Layout) (tag : Tag) (ns : List ℕ) → Valid l → Small (plant_reply l tag ns)
+plant_reply_small l tag ns v =
+    cond_both (is Rsrc tag) (resource_comes_to l (nth ns 0) (nth ns 1)) _ Small (λ _. resource_small l (nth ns 0) (nth ns 1) v)
+    (λ _. cond_both (is Task tag) (task_comes_to l (task_of ns)) _ Small (λ _. task_small l (task_of ns) v.tasks_few)
+    (λ _. cond_both (is Fixd tag) (Accepted l.count) (unheard tag) Small (λ _. fits 0 _ (lit≤ tt) (omega (arith, v.tasks_few))) (λ _. unheard_small tag)))
 
-step_small : (e : Entries) (f : ℕ) → e.steps ≤ most-steps → Small (add_step e f)
+step_small : (e : Entries) (f : ℕ) → e.steps ≤ most_steps → Small (add_step e f)
 step_small e f few =
-    cond_both (ltb e.steps most-steps) _ NoRoom Small
+    cond_both (ltb e.steps most_steps) _ NoRoom Small
     (λ _. cond_both (leb f 1) (Accepted e.steps) (FieldOutside 1) Small (λ _. fits 0 _ (lit≤ tt) (omega arith)) (λ _. fits 3 1 (lit≤ tt) (lit≤ tt)))
     (λ _. fits 4 0 (lit≤ tt) (lit≤ tt))
 
-input-small : (e : Entries) → e.inputs ≤ most-inputs → Small (add-input e)
-input-small e few = cond_both (ltb e.inputs most-inputs) (Accepted e.inputs) NoRoom Small (λ _. fits 0 _ (lit≤ tt) (omega arith)) (λ _. fits 4 0 (lit≤ tt) (lit≤ tt))
+input_small : (e : Entries) → e.inputs ≤ most_inputs → Small (add_input e)
+input_small e few = cond_both (ltb e.inputs most_inputs) (Accepted e.inputs) NoRoom Small (λ _. fits 0 _ (lit≤ tt) (omega arith)) (λ _. fits 4 0 (lit≤ tt) (lit≤ tt))
 
-lead-small : (e : Entries) (s i n : ℕ) → Small (set-lead e s i n)
-lead-small e s i n =
+lead_small : (e : Entries) (s i n : ℕ) → Small (set_lead e s i n)
+lead_small e s i n =
     cond_both (ltb s e.steps) _ (FieldOutside 1) Small
     (λ _. cond_both (ltb i e.inputs) _ (FieldOutside 2) Small
     (λ _. cond_both (ltb n e.steps) (Accepted 0) (FieldOutside 3) Small (λ _. fits 0 0 (lit≤ tt) (lit≤ tt)) (λ _. fits 3 3 (lit≤ tt) (lit≤ tt)))
     (λ _. fits 3 2 (lit≤ tt) (lit≤ tt)))
     (λ _. fits 3 1 (lit≤ tt) (lit≤ tt))
 
-pub chart-reply-small : (e : Entries) (tag : Tag) (ns : List ℕ) → ChartValid e → Small (chart-reply e tag ns)
-chart-reply-small e tag ns v =
-    cond_both (is Step tag) (add_step e (nth ns 0)) _ Small (λ _. step_small e (nth ns 0) v.few-steps)
-    (λ _. cond_both (is Inpt tag) (add-input e) _ Small (λ _. input-small e v.few-inputs)
-    (λ _. cond_both (is Lead tag) (set-lead e (nth ns 0) (nth ns 1) (nth ns 2)) _ Small (λ _. lead-small e (nth ns 0) (nth ns 1) (nth ns 2))
-    (λ _. cond_both (is Fixd tag) (Accepted e.steps) (unheard tag) Small (λ _. fits 0 _ (lit≤ tt) (omega (arith, v.few-steps))) (λ _. unheard-small tag))))
+pub chart_reply_small : (e : Entries) (tag : Tag) (ns : List ℕ) → ChartValid e → Small (chart_reply e tag ns)
+chart_reply_small e tag ns v =
+    cond_both (is Step tag) (add_step e (nth ns 0)) _ Small (λ _. step_small e (nth ns 0) v.few_steps)
+    (λ _. cond_both (is Inpt tag) (add_input e) _ Small (λ _. input_small e v.few_inputs)
+    (λ _. cond_both (is Lead tag) (set_lead e (nth ns 0) (nth ns 1) (nth ns 2)) _ Small (λ _. lead_small e (nth ns 0) (nth ns 1) (nth ns 2))
+    (λ _. cond_both (is Fixd tag) (Accepted e.steps) (unheard tag) Small (λ _. fits 0 _ (lit≤ tt) (omega (arith, v.few_steps))) (λ _. unheard_small tag))))

@@ -3,19 +3,19 @@ use Rattle.std.proofs.Common.{◌≡◌, ℕ, zero, suc, ◌+◌, ◌<◌, ◌�
 use Rattle.std.proofs.lemmas.Bool.{cond_both, cond-true, ltb-true}
 use Rattle.systems.specs.Systems.{Meaning, Lawful}
 use Rattle.systems.specs.Lowest.{tally}
-use Rattle.systems.specs.Outcomes.{answer-of}
-use Rattle.systems.specs.Judging.{judged, judged-from}
+use Rattle.systems.specs.Outcomes.{answer_of}
+use Rattle.systems.specs.Judging.{judged, judged_from}
 use Rattle.systems.specs.declared.outcome.Outcome.{Outcome}
 use Rattle.systems.specs.declared.outcome.Outcome.TheVariants.{Accepted, Unfit, Bad, Listed, Full, NoSuchPlace, LeadsToBad, LeadsOutside, FirstNotListed, Unsettled, NotLegal, EndsNotBad, NotALine, OutOfTurn}
-use Rattle.sessions.specs.Tables.{Listing, used, room, state-at, find, unsettled}
+use Rattle.sessions.specs.Tables.{Listing, used, room, state_at, find, unsettled}
 use Rattle.sessions.specs.Calls.{decided, scanned, settle, shown, verdict}
 use Rattle.sessions.specs.Pasts.{Reached}
-use Rattle.sessions.proofs.Tables.{good-reached}
+use Rattle.sessions.proofs.Tables.{good_reached}
 use Rattle.lines.specs.Spelling.{largest, most}
 use Rattle.lines.specs.declared.tag.Tag.{Tag}
 use Rattle.lines.specs.declared.tag.Tag.TheVariants.{Offr, Setl, Show, Verd, Runs, Line}
-use Rattle.logs.specs.Answers.{Said, is, nth, unheard, line-spelled, spelled}
-use Rattle.logs.specs.Serving.{Logged, offer-of, reply}
+use Rattle.logs.specs.Answers.{Said, is, nth, unheard, line_spelled, spelled}
+use Rattle.logs.specs.Serving.{Logged, offer_of, reply}
 
 -- both numbers of a pair fit their columns
 pub record Narrow (a : ℕ × ℕ) : Type 0 where
@@ -23,33 +23,33 @@ pub record Narrow (a : ℕ × ℕ) : Type 0 where
   pub value : a.1 ≤ largest
 
 abbrev pub Small : Outcome → Type 0
-Small o = Narrow (answer-of o)
+Small o = Narrow (answer_of o)
 
 -- a value that fits, beside any number of an outcome
 pub fits : (n v : ℕ) → n ≤ 19 → v ≤ largest → Narrow (n, v)
 fits n v a b = record { number = omega arith; value = b }
 
-pub unheard-small : (t : Tag) → Small (unheard t)
-unheard-small t = cond_both (is Line t) NotALine OutOfTurn Small (λ _. fits 1 0 (lit≤ tt) (lit≤ tt)) (λ _. fits 2 0 (lit≤ tt) (lit≤ tt))
+pub unheard_small : (t : Tag) → Small (unheard t)
+unheard_small t = cond_both (is Line t) NotALine OutOfTurn Small (λ _. fits 1 0 (lit≤ tt) (lit≤ tt)) (λ _. fits 2 0 (lit≤ tt) (lit≤ tt))
 
-tally-within : (p : ℕ → Bool) (n : ℕ) → tally p n ≤ n
-tally-within p zero = omega arith
-tally-within p (suc n) =
-    let h : tally p n ≤ n = tally-within p n in
+tally_within : (p : ℕ → Bool) (n : ℕ) → tally p n ≤ n
+tally_within p zero = omega arith
+tally_within p (suc n) =
+    let h : tally p n ≤ n = tally_within p n in
     cond_both (p n) (tally p n + 1) (tally p n) (λ k. k ≤ suc n) (λ _. omega arith) (λ _. omega arith)
 
 -- a judged list's position or length is at most its length
-judged-within : {S : Type 0} (m : Meaning S) (cs : List ℕ) (x : S) (i : ℕ) → i + length cs ≤ largest → Small (judged-from m x cs i)
-judged-within m [] x i h = cond_both (m.bad x) (Accepted i) (EndsNotBad i) Small (λ _. fits 0 i (lit≤ tt) (omega arith)) (λ _. fits 18 i (lit≤ tt) (omega arith))
-judged-within m (c ∷ cs) x i h =
-    cond_both (m.legal x c) (judged-from m (m.next x c) cs (i + 1)) (NotLegal i) Small
-    (λ _. judged-within m cs (m.next x c) (i + 1) (omega arith))
+judged_within : {S : Type 0} (m : Meaning S) (cs : List ℕ) (x : S) (i : ℕ) → i + length cs ≤ largest → Small (judged_from m x cs i)
+judged_within m [] x i h = cond_both (m.bad x) (Accepted i) (EndsNotBad i) Small (λ _. fits 0 i (lit≤ tt) (omega arith)) (λ _. fits 18 i (lit≤ tt) (omega arith))
+judged_within m (c ∷ cs) x i h =
+    cond_both (m.legal x c) (judged_from m (m.next x c) cs (i + 1)) (NotLegal i) Small
+    (λ _. judged_within m cs (m.next x c) (i + 1) (omega arith))
     (λ _. fits 17 i (lit≤ tt) (omega arith))
 
 module _ {S : Type 0} (v : Logged S) (t : Listing S) (len : t.len ≤ largest) (few : v.means.count ≤ largest) where
-  offer-small : (o : Option S) → Small (offer-of v t o)
-  offer-small None = fits 8 0 (lit≤ tt) (lit≤ tt)
-  offer-small (Some x) =
+  offer_small : (o : Option S) → Small (offer_of v t o)
+  offer_small None = fits 8 0 (lit≤ tt) (lit≤ tt)
+  offer_small (Some x) =
       let m = v.means in
       cond_both (m.fits x) _ Unfit Small
       (λ _. cond_both (m.bad x) Bad _ Small
@@ -61,30 +61,30 @@ module _ {S : Type 0} (v : Logged S) (t : Listing S) (len : t.len ≤ largest) (
       (λ _. fits 11 0 (lit≤ tt) (lit≤ tt)))))
       (λ _. fits 8 0 (lit≤ tt) (lit≤ tt))
 
-  decided-small : (x : S) (c : ℕ) → Small (decided v.means x c)
-  decided-small x c =
+  decided_small : (x : S) (c : ℕ) → Small (decided v.means x c)
+  decided_small x c =
       let m = v.means in
       cond_both (ltb c m.count) _ (Accepted (tally (m.legal x) m.count)) Small
       (λ h. let lt : c < m.count = ltb-true _ _ h in
       cond_both (m.bad (m.next x c)) (LeadsToBad c) (LeadsOutside c) Small (λ _. fits 13 c (lit≤ tt) (omega arith)) (λ _. fits 14 c (lit≤ tt) (omega arith)))
-      (λ _. fits 0 _ (lit≤ tt) (omega (arith, tally-within (m.legal x) m.count)))
+      (λ _. fits 0 _ (lit≤ tt) (omega (arith, tally_within (m.legal x) m.count)))
 
-  settle-small : (p : ℕ) → Small (settle v.means t p)
+  settle_small : (p : ℕ) → Small (settle v.means t p)
   unfolding scanned
-  settle-small p =
-      cond_both (ltb p t.len) (scanned v.means (used t) (state-at v.means t p)) NoSuchPlace Small
-      (λ _. decided-small (state-at v.means t p) _)
+  settle_small p =
+      cond_both (ltb p t.len) (scanned v.means (used t) (state_at v.means t p)) NoSuchPlace Small
+      (λ _. decided_small (state_at v.means t p) _)
       (λ _. fits 12 0 (lit≤ tt) (lit≤ tt))
 
-  shown-small : (p : ℕ) → Narrow (shown v.means t p).0
-  shown-small p =
+  shown_small : (p : ℕ) → Narrow (shown v.means t p).0
+  shown_small p =
       let m = v.means in
-      cond_both {A = (ℕ × ℕ) × S} (ltb p t.len) (answer-of (Accepted p), state-at m t p) (answer-of NoSuchPlace, m.first) (λ q. Narrow q.0)
+      cond_both {A = (ℕ × ℕ) × S} (ltb p t.len) (answer_of (Accepted p), state_at m t p) (answer_of NoSuchPlace, m.first) (λ q. Narrow q.0)
       (λ h. fits 0 p (lit≤ tt) (omega (arith, ltb-true _ _ h)))
       (λ _. fits 12 0 (lit≤ tt) (lit≤ tt))
 
-  verdict-small : Small (verdict v.means t)
-  verdict-small =
+  verdict_small : Small (verdict v.means t)
+  verdict_small =
       let m = v.means in
       cond_both (ltb (find m m.first (used t)) t.len) _ FirstNotListed Small
       (λ _. cond_both (ltb (unsettled (used t)) t.len) (Unsettled (unsettled (used t))) (Accepted t.len) Small
@@ -92,25 +92,25 @@ module _ {S : Type 0} (v : Logged S) (t : Listing S) (len : t.len ≤ largest) (
       (λ _. fits 0 _ (lit≤ tt) len))
       (λ _. fits 15 0 (lit≤ tt) (lit≤ tt))
 
-  pub reply-small : (tag : Tag) (ns : List ℕ) → length ns ≤ most → Narrow (reply v t tag ns)
-  reply-small tag ns h =
-      cond_both (is Offr tag) (answer-of (offer-of v t (v.restored ns))) _ Narrow
-      (λ _. offer-small (v.restored ns))
-      (λ _. cond_both (is Setl tag) (answer-of (settle v.means t (nth ns 0))) _ Narrow
-      (λ _. settle-small (nth ns 0))
+  pub reply_small : (tag : Tag) (ns : List ℕ) → length ns ≤ most → Narrow (reply v t tag ns)
+  reply_small tag ns h =
+      cond_both (is Offr tag) (answer_of (offer_of v t (v.restored ns))) _ Narrow
+      (λ _. offer_small (v.restored ns))
+      (λ _. cond_both (is Setl tag) (answer_of (settle v.means t (nth ns 0))) _ Narrow
+      (λ _. settle_small (nth ns 0))
       (λ _. cond_both (is Show tag) (shown v.means t (nth ns 0)).0 _ Narrow
-      (λ _. shown-small (nth ns 0))
-      (λ _. cond_both (is Verd tag) (answer-of (verdict v.means t)) _ Narrow
-      (λ _. verdict-small)
-      (λ _. cond_both (is Runs tag) (answer-of (judged v.means ns)) _ Narrow
-      (λ _. judged-within v.means ns v.means.first 0 (omega arith))
-      (λ _. unheard-small tag)))))
+      (λ _. shown_small (nth ns 0))
+      (λ _. cond_both (is Verd tag) (answer_of (verdict v.means t)) _ Narrow
+      (λ _. verdict_small)
+      (λ _. cond_both (is Runs tag) (answer_of (judged v.means ns)) _ Narrow
+      (λ _. judged_within v.means ns v.means.first 0 (omega arith))
+      (λ _. unheard_small tag)))))
 
 -- a state that is shown is one of a session's table, so it fits
-pub shown-fits : {S : Type 0} (m : Meaning S) → Lawful m → (t : Listing S) → Reached m t → (p : ℕ) (x : S) → ltb p t.len ≡ true → x ≡ (shown m t p).1 → m.fits x ≡ true
-shown-fits {S} m law t h p x b e =
-    ap m.fits (e ∙ ap (λ (q : (ℕ × ℕ) × S). q.1) (cond-true (ltb p t.len) _ _ b)) ∙ (good-reached m law t h).fits p (ltb-true _ _ b)
+pub shown_fits : {S : Type 0} (m : Meaning S) → Lawful m → (t : Listing S) → Reached m t → (p : ℕ) (x : S) → ltb p t.len ≡ true → x ≡ (shown m t p).1 → m.fits x ≡ true
+shown_fits {S} m law t h p x b e =
+    ap m.fits (e ∙ ap (λ (q : (ℕ × ℕ) × S). q.1) (cond-true (ltb p t.len) _ _ b)) ∙ (good_reached m law t h).fits p (ltb-true _ _ b)
 
 -- one line more: what is written so far, with the log of what is left, is the log of the whole
-pub spelled-more : (out out' : List ℕ) (a : Said) (rest : List Said) → out' ≡ out ++ line-spelled a → out' ++ spelled rest ≡ out ++ spelled (a ∷ rest)
-spelled-more out out' a rest e = ap (λ (x : List ℕ). x ++ spelled rest) e ∙ append_assoc out (line-spelled a) (spelled rest)
+pub spelled_more : (out out' : List ℕ) (a : Said) (rest : List Said) → out' ≡ out ++ line_spelled a → out' ++ spelled rest ≡ out ++ spelled (a ∷ rest)
+spelled_more out out' a rest e = ap (λ (x : List ℕ). x ++ spelled rest) e ∙ append_assoc out (line_spelled a) (spelled rest)

@@ -48,9 +48,9 @@ answers_by say go t [] = []
 answers_by say go t (l ∷ ls) = say t l ∷ answers_by say go (go t l) ls
 
 -- the bytes of a line, and of lines one after another
-abbrev pub line-spelled : Said → List ℕ
-line-spelled a = spelling a.0 a.1
+abbrev pub line_spelled : Said → List ℕ
+line_spelled a = spelling a.0 a.1
 
 abbrev pub spelled : List Said → List ℕ
 spelled [] = []
-spelled (a ∷ more) = line-spelled a ++ spelled more
+spelled (a ∷ more) = line_spelled a ++ spelled more

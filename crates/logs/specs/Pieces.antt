@@ -20,30 +20,30 @@ abbrev pub joined : List (List ℕ) → List ℕ
 joined [] = []
 joined (p ∷ ps) = p ++ joined ps
 
-abbrev pub piece-at : List (List ℕ) → ℕ → List ℕ
-piece-at ps k = slice_index_or ps k []
+abbrev pub piece_at : List (List ℕ) → ℕ → List ℕ
+piece_at ps k = slice_index_or ps k []
 
 -- a piece is not empty, and a line feed stands in it only as its last byte
 pub record Piece (p : List ℕ) : Type 0 where
   pub some_byte : 0 < length p
-  pub feed-last : (i : ℕ) → i + 1 < length p → slice_index p i ≢ feed
+  pub feed_last : (i : ℕ) → i + 1 < length p → slice_index p i ≢ feed
 
-abbrev pub Ends-in-feed : List ℕ → Type 0
-Ends-in-feed p = (i : ℕ) → i + 1 ≡ length p → slice_index p i ≡ feed
+abbrev pub EndsInFeed : List ℕ → Type 0
+EndsInFeed p = (i : ℕ) → i + 1 ≡ length p → slice_index p i ≡ feed
 
 -- one after another the pieces are the bytes, and every piece but the last ends with a line feed
 pub record Splits (bs : List ℕ) (ps : List (List ℕ)) : Type 0 where
   pub whole : joined ps ≡ bs
-  pub each : (k : ℕ) → k < length ps → Piece (piece-at ps k)
-  pub ends : (k : ℕ) → k + 1 < length ps → Ends-in-feed (piece-at ps k)
+  pub each : (k : ℕ) → k < length ps → Piece (piece_at ps k)
+  pub ends : (k : ℕ) → k + 1 < length ps → EndsInFeed (piece_at ps k)
 
 -- what each piece says: its line, or LINE where it is none
-abbrev pub said-by : List (List ℕ) → List Said
-said-by ps = map (λ p. heard (line_of p)) ps
+abbrev pub said_by : List (List ℕ) → List Said
+said_by ps = map (λ p. heard (line_of p)) ps
 
-abbrev pub lines-in : List ℕ → List Said
-lines-in bs = said-by (pieces bs)
+abbrev pub lines_in : List ℕ → List Said
+lines_in bs = said_by (pieces bs)
 
 -- the lines that a reader has ahead
-abbrev pub lines-ahead : LineReader → List Said
-lines-ahead r = lines-in (ahead r)
+abbrev pub lines_ahead : LineReader → List Said
+lines_ahead r = lines_in (ahead r)

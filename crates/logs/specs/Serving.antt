@@ -1,12 +1,12 @@
 -- Lines in a session: what each is answered, and the table that it leaves.
 use Rattle.std.specs.Prelude.{ℕ, Bool, cond, ◌&&◌, List, Some, None, Option, nat_lt}
 use Rattle.systems.specs.Systems.{Meaning}
-use Rattle.systems.specs.Outcomes.{answer-of}
+use Rattle.systems.specs.Outcomes.{answer_of}
 use Rattle.systems.specs.Judging.{judged}
 use Rattle.systems.specs.declared.outcome.Outcome.{Outcome}
 use Rattle.systems.specs.declared.outcome.Outcome.TheVariants.{Unfit}
 use Rattle.systems.specs.declared.system.System.{Ghosts as System}
-use Rattle.sessions.specs.Tables.{Listing, state-at}
+use Rattle.sessions.specs.Tables.{Listing, state_at}
 use Rattle.sessions.specs.Calls.{offer, offered, settle, settled, shown, verdict}
 use Rattle.lines.specs.declared.loggable.Loggable.{Ghosts as Loggable}
 use Rattle.lines.specs.declared.tag.Tag.{Tag}
@@ -25,34 +25,34 @@ logged y z system = record { means = y.meaning system; numbers = z.numbers syste
 
 module _ {S : Type 0} (v : Logged S) where
   -- numbers that are no state at all do not fit either
-  abbrev pub offer-of : Listing S → Option S → Outcome
-  offer-of t None = Unfit
-  offer-of t (Some x) = offer v.means t x
+  abbrev pub offer_of : Listing S → Option S → Outcome
+  offer_of t None = Unfit
+  offer_of t (Some x) = offer v.means t x
 
-  abbrev pub after-offer : Listing S → Option S → Listing S
-  after-offer t None = t
-  after-offer t (Some x) = offered v.means t x
+  abbrev pub after_offer : Listing S → Option S → Listing S
+  after_offer t None = t
+  after_offer t (Some x) = offered v.means t x
 
   abbrev pub reply : Listing S → Tag → List ℕ → ℕ × ℕ
   reply t tag ns =
-      cond (is Offr tag) (answer-of (offer-of t (v.restored ns)))
-      (cond (is Setl tag) (answer-of (settle v.means t (nth ns 0)))
+      cond (is Offr tag) (answer_of (offer_of t (v.restored ns)))
+      (cond (is Setl tag) (answer_of (settle v.means t (nth ns 0)))
       (cond (is Show tag) (shown v.means t (nth ns 0)).0
-      (cond (is Verd tag) (answer-of (verdict v.means t))
-      (cond (is Runs tag) (answer-of (judged v.means ns)) (answer-of (unheard tag))))))
+      (cond (is Verd tag) (answer_of (verdict v.means t))
+      (cond (is Runs tag) (answer_of (judged v.means ns)) (answer_of (unheard tag))))))
 
   -- the table after a line
   abbrev pub goes_in : Listing S → Tag → List ℕ → Listing S
-  goes_in t tag ns = cond (is Offr tag) (after-offer t (v.restored ns)) (cond (is Setl tag) (settled v.means t (nth ns 0)) t)
+  goes_in t tag ns = cond (is Offr tag) (after_offer t (v.restored ns)) (cond (is Setl tag) (settled v.means t (nth ns 0)) t)
 
   -- a SHOW that is accepted, which the state's OFFR line answers
-  abbrev pub is-shown : Listing S → Tag → List ℕ → Bool
-  is-shown t tag ns = is Show tag && nat_lt (nth ns 0) t.len
+  abbrev pub is_shown : Listing S → Tag → List ℕ → Bool
+  is_shown t tag ns = is Show tag && nat_lt (nth ns 0) t.len
 
-  abbrev pub says-in : Listing S → Tag → List ℕ → Said
-  says-in t tag ns =
-      cond (is-shown t tag ns) (Offr, v.numbers (state-at v.means t (nth ns 0))) (answered tag (reply t tag ns))
+  abbrev pub says_in : Listing S → Tag → List ℕ → Said
+  says_in t tag ns =
+      cond (is_shown t tag ns) (Offr, v.numbers (state_at v.means t (nth ns 0))) (answered tag (reply t tag ns))
 
   -- the answers to lines
   abbrev pub served : Listing S → List Said → List Said
-  served = answers_by (λ t l. says-in t l.0 l.1) (λ t l. goes_in t l.0 l.1)
+  served = answers_by (λ t l. says_in t l.0 l.1) (λ t l. goes_in t l.0 l.1)

@@ -1,12 +1,12 @@
 // Lines in a draft, of whatever it is a draft.
 ghost use Rattle.std.specs.Prelude.{◌≡◌, ◌≤◌, [], ◌++◌, IfOk, if◌then◌else◌};
-ghost use Rattle.systems.specs.Outcomes.{answer-of};
-ghost use Rattle.plants.specs.Entries.{task-comes-to, after-task};
+ghost use Rattle.systems.specs.Outcomes.{answer_of};
+ghost use Rattle.plants.specs.Entries.{task_comes_to, after_task};
 ghost use Rattle.lines.specs.Spelling.{largest};
 ghost use Rattle.lines.specs.declared.tag.Tag.TheVariants.{Fixd};
 ghost use Rattle.logs.specs.Answers.{is, answered, spelled};
-ghost use Rattle.logs.specs.Pieces.{lines-ahead};
-ghost use Rattle.logs.specs.Turns.{Turn, Plant-draft, Chart-draft, Memory, says, entered, fixed, task-of};
+ghost use Rattle.logs.specs.Pieces.{lines_ahead};
+ghost use Rattle.logs.specs.Turns.{Turn, PlantDraft, ChartDraft, Memory, says, entered, fixed, task_of};
 ghost use Rattle.logs.specs.Log.{answers};
 
 use crate::notes::{note, number_at};
@@ -31,7 +31,7 @@ pub(crate) trait Drafting {
 }
 
 impl Drafting for DraftChart {
-    ghost turn = { λ d. Chart-draft d.entries };
+    ghost turn = { λ d. ChartDraft d.entries };
 
     fn enter(&mut self, tag: Tag, numbers: &[u32]) -> (u32, usize) {
         match tag {
@@ -53,7 +53,7 @@ impl Drafting for DraftChart {
 
 // The nine fields of a task, in their order.
 fn task_in(numbers: &[u32]) -> TaskEntry
-    ensures { result ≡ task-of numbers.now }
+    ensures { result ≡ task_of numbers.now }
 {
     TaskEntry {
         offset: number_at(numbers, 0),
@@ -70,8 +70,8 @@ fn task_in(numbers: &[u32]) -> TaskEntry
 
 // Enters a task; the answer fits its columns.
 fn enter_task(draft: &mut DraftPlant, task: TaskEntry) -> (u32, usize)
-    ensures answer { result ≡ answer-of (task-comes-to draft.old.layout task) }
-    ensures after { draft.new.layout ≡ after-task draft.old.layout task }
+    ensures answer { result ≡ answer_of (task_comes_to draft.old.layout task) }
+    ensures after { draft.new.layout ≡ after_task draft.old.layout task }
     ensures number { result.0 ≤ largest }
     ensures value { result.1 ≤ largest }
 {
@@ -79,7 +79,7 @@ fn enter_task(draft: &mut DraftPlant, task: TaskEntry) -> (u32, usize)
 }
 
 impl Drafting for DraftPlant {
-    ghost turn = { λ d. Plant-draft d.layout };
+    ghost turn = { λ d. PlantDraft d.layout };
 
     fn enter(&mut self, tag: Tag, numbers: &[u32]) -> (u32, usize) {
         match tag {
@@ -112,7 +112,7 @@ pub(crate) fn draft_lines<D: Drafting>(
     draft: &mut D,
     out: &mut Vec<u8>,
 ) -> Result<bool, AllocError>
-    ensures { IfOk result (λ ready. (cells : Memory) → out.new.items ++ spelled (if ready then answers cells (fixed cells (turn draft.new)) (lines-ahead reader.new) else []) ≡ out.old.items ++ spelled (answers cells (turn draft.old) (lines-ahead reader.old))) }
+    ensures { IfOk result (λ ready. (cells : Memory) → out.new.items ++ spelled (if ready then answers cells (fixed cells (turn draft.new)) (lines_ahead reader.new) else []) ≡ out.old.items ++ spelled (answers cells (turn draft.old) (lines_ahead reader.old))) }
 {
     while !reader.at_end() {
         let line = reader.next_line();

@@ -3,9 +3,9 @@ ghost use Rattle.std.specs.Prelude.{◌≡◌, ◌++◌, take, IfOk, OnOk};
 ghost use Rattle.charts.specs.Entries.{begun};
 ghost use Rattle.plants.specs.Layouts.{nothing};
 ghost use Rattle.logs.specs.Answers.{spelled};
-ghost use Rattle.logs.specs.Pieces.{lines-in, lines-ahead};
-ghost use Rattle.logs.specs.Turns.{Opening, Chart-draft, Plant-draft};
-ghost use Rattle.logs.specs.Log.{answers, answers-left, fresh, most_bytes, log-of, Closed-is-safe, Judges-runs, Refused-stays, Read-in-pieces, Complete, Any-memory};
+ghost use Rattle.logs.specs.Pieces.{lines_in, lines_ahead};
+ghost use Rattle.logs.specs.Turns.{Opening, ChartDraft, PlantDraft};
+ghost use Rattle.logs.specs.Log.{answers, answers_left, fresh, most_bytes, log_of, ClosedIsSafe, JudgesRuns, RefusedStays, ReadInPieces, Complete, AnyMemory};
 
 use crate::drafting::draft_lines;
 use crate::opening::{Kind, open};
@@ -26,7 +26,7 @@ pub const MOST_BYTES: usize = 60000;
 
 // Answers the lines of a chart's draft, and then of a session on the chart.
 fn chart_log(heap: Global, reader: &mut LineReader, out: &mut Vec<u8>) -> Result<(), AllocError>
-    ensures { OnOk result (out.new.items ≡ out.old.items ++ spelled (answers fresh (Chart-draft begun) (lines-ahead reader.old))) }
+    ensures { OnOk result (out.new.items ≡ out.old.items ++ spelled (answers fresh (ChartDraft begun) (lines_ahead reader.old))) }
 {
     let mut draft = DraftChart::new();
     if !draft_lines(reader, &mut draft, out)? {
@@ -44,7 +44,7 @@ fn chart_log(heap: Global, reader: &mut LineReader, out: &mut Vec<u8>) -> Result
 
 // Answers the lines of a plant's draft, and then of a session on the plant under the site's policy.
 fn plant_log(heap: Global, reader: &mut LineReader, out: &mut Vec<u8>) -> Result<(), AllocError>
-    ensures { OnOk result (out.new.items ≡ out.old.items ++ spelled (answers fresh (Plant-draft nothing) (lines-ahead reader.old))) }
+    ensures { OnOk result (out.new.items ≡ out.old.items ++ spelled (answers fresh (PlantDraft nothing) (lines_ahead reader.old))) }
 {
     let mut draft = DraftPlant::new();
     if !draft_lines(reader, &mut draft, out)? {
@@ -67,7 +67,7 @@ fn begun_log(
     reader: &mut LineReader,
     out: &mut Vec<u8>,
 ) -> Result<(), AllocError>
-    ensures { OnOk result (out.new.items ≡ out.old.items ++ spelled (answers-left fresh kind (lines-ahead reader.old))) }
+    ensures { OnOk result (out.new.items ≡ out.old.items ++ spelled (answers_left fresh kind (lines_ahead reader.old))) }
 {
     match kind {
         Some(Kind::Plant) => plant_log(heap, reader, out),
@@ -78,7 +78,7 @@ fn begun_log(
 
 // Answers every line of the input.
 fn whole(heap: Global, input: &[u8]) -> Result<Vec<u8>, AllocError>
-    ensures { IfOk result (λ v. v.items ≡ spelled (answers fresh Opening (lines-in input.now))) }
+    ensures { IfOk result (λ v. v.items ≡ spelled (answers fresh Opening (lines_in input.now))) }
 {
     let mut out = Vec::new(heap);
     let mut reader = LineReader::new(input);
@@ -98,13 +98,13 @@ fn read_part(input: &[u8]) -> &[u8]
 // verdict, the plant or chart that the lines before it entered has no bad run, and every run of it can go on.
 // Where an answer accepts choices, they are a bad run of it. A line that is refused changes nothing.
 pub fn log(heap: Global, input: &[u8]) -> Result<Vec<u8>, AllocError>
-    ensures bytes { IfOk result (λ v. v.items ≡ log-of input.now) }
-    ensures pieces { Read-in-pieces input.now }
-    ensures closed { Closed-is-safe input.now }
-    ensures runs { Judges-runs input.now }
-    ensures refused { Refused-stays input.now }
+    ensures bytes { IfOk result (λ v. v.items ≡ log_of input.now) }
+    ensures pieces { ReadInPieces input.now }
+    ensures closed { ClosedIsSafe input.now }
+    ensures runs { JudgesRuns input.now }
+    ensures refused { RefusedStays input.now }
     ensures complete { Complete input.now }
-    ensures memory { Any-memory input.now }
+    ensures memory { AnyMemory input.now }
 {
     whole(heap, read_part(input))
 }

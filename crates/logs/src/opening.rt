@@ -1,9 +1,9 @@
 // Lines before a draft: the first PLNT or CHRT begins one.
 ghost use Rattle.std.specs.Prelude.{◌≡◌, ◌++◌, IfOk};
-ghost use Rattle.logs.specs.Answers.{spelled, unheard as not-heard};
-ghost use Rattle.logs.specs.Pieces.{lines-ahead};
-ghost use Rattle.logs.specs.Turns.{Memory, Opening, kind as kind-of-tag, opening as opened};
-ghost use Rattle.logs.specs.Log.{answers, answers-left};
+ghost use Rattle.logs.specs.Answers.{spelled, unheard as not_heard};
+ghost use Rattle.logs.specs.Pieces.{lines_ahead};
+ghost use Rattle.logs.specs.Turns.{Memory, Opening, kind as kind_of_tag, opening as opened};
+ghost use Rattle.logs.specs.Log.{answers, answers_left};
 
 use crate::notes::note;
 use lines::reader::LineReader;
@@ -20,7 +20,7 @@ pub(crate) enum Kind {
 
 // What a tag begins the draft of.
 fn kind_of(tag: Tag) -> Option<Kind>
-    ensures { result ≡ kind-of-tag tag }
+    ensures { result ≡ kind_of_tag tag }
 {
     match tag {
         Tag::Plnt => Some(Kind::Plant),
@@ -32,7 +32,7 @@ fn kind_of(tag: Tag) -> Option<Kind>
 
 // The outcome of a line that no call answers.
 fn unheard(tag: Tag) -> Outcome
-    ensures { result ≡ not-heard tag }
+    ensures { result ≡ not_heard tag }
 {
     match tag {
         Tag::Line => Outcome::NotALine,
@@ -54,7 +54,7 @@ fn outcome(kind: Option<Kind>, tag: Tag) -> Outcome
 
 // Answers lines until a draft begins, and says of what.
 pub(crate) fn open(reader: &mut LineReader, out: &mut Vec<u8>) -> Result<Option<Kind>, AllocError>
-    ensures { IfOk result (λ k. (cells : Memory) → out.new.items ++ spelled (answers-left cells k (lines-ahead reader.new)) ≡ out.old.items ++ spelled (answers cells Opening (lines-ahead reader.old))) }
+    ensures { IfOk result (λ k. (cells : Memory) → out.new.items ++ spelled (answers_left cells k (lines_ahead reader.new)) ≡ out.old.items ++ spelled (answers cells Opening (lines_ahead reader.old))) }
 {
     while !reader.at_end() {
         let line = reader.next_line();

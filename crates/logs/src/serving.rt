@@ -1,15 +1,15 @@
 // Lines in a session.
 ghost use Rattle.std.specs.Prelude.{◌≡◌, ◌≤◌, ◌&&◌, ◌++◌, length, OnOk, nat_lt};
-ghost use Rattle.systems.specs.Outcomes.{answer-of};
+ghost use Rattle.systems.specs.Outcomes.{answer_of};
 ghost use Rattle.lines.specs.declared.tag.Tag.TheVariants.{Show};
 ghost use Rattle.lines.specs.Spelling.{largest, most};
 ghost use Rattle.lines.specs.Reading.{said};
 ghost use Rattle.sessions.specs.Calls.{shown};
 ghost use Rattle.sessions.specs.Tables.{empty};
-ghost use Rattle.sessions.specs.Views.{system-of, table_of, Has-past};
-ghost use Rattle.logs.specs.Answers.{is, nth, line-spelled, spelled};
-ghost use Rattle.logs.specs.Pieces.{lines-ahead};
-ghost use Rattle.logs.specs.Serving.{logged, offer-of, after-offer, reply as replied, says-in, goes_in, served};
+ghost use Rattle.sessions.specs.Views.{system_of, table_of, HasPast};
+ghost use Rattle.logs.specs.Answers.{is, nth, line_spelled, spelled};
+ghost use Rattle.logs.specs.Pieces.{lines_ahead};
+ghost use Rattle.logs.specs.Serving.{logged, offer_of, after_offer, reply as replied, says_in, goes_in, served};
 
 use crate::notes::{note, note_state, number_at};
 use lines::line::Line;
@@ -24,11 +24,11 @@ use systems::outcome::Outcome;
 
 // Offers the state that the numbers are; numbers that are no state do not fit.
 fn offer_numbers<Y: Loggable>(system: &Y, session: &mut Session<Y>, numbers: &[u32]) -> (u32, usize)
-    requires { system-of Y.System.meaning session.old ≡ Y.System.meaning system.now }
-    ensures answer { result ≡ answer-of (offer-of (logged Y.System Y.Loggable system.now) (table_of session.old) (Y.Loggable.restored system.now numbers.now)) }
-    ensures system { system-of Y.System.meaning session.new ≡ Y.System.meaning system.now }
-    ensures after { table_of session.new ≡ after-offer (logged Y.System Y.Loggable system.now) (table_of session.old) (Y.Loggable.restored system.now numbers.now) }
-    ensures past { Has-past Y.System.meaning session.old → Has-past Y.System.meaning session.new }
+    requires { system_of Y.System.meaning session.old ≡ Y.System.meaning system.now }
+    ensures answer { result ≡ answer_of (offer_of (logged Y.System Y.Loggable system.now) (table_of session.old) (Y.Loggable.restored system.now numbers.now)) }
+    ensures system { system_of Y.System.meaning session.new ≡ Y.System.meaning system.now }
+    ensures after { table_of session.new ≡ after_offer (logged Y.System Y.Loggable system.now) (table_of session.old) (Y.Loggable.restored system.now numbers.now) }
+    ensures past { HasPast Y.System.meaning session.old → HasPast Y.System.meaning session.new }
 {
     match system.state_of(numbers) {
         Some(state) => session.offer(state),
@@ -43,11 +43,11 @@ fn reply<Y: Loggable>(
     tag: Tag,
     numbers: &[u32],
 ) -> (u32, usize)
-    requires { system-of Y.System.meaning session.old ≡ Y.System.meaning system.now }
+    requires { system_of Y.System.meaning session.old ≡ Y.System.meaning system.now }
     ensures answer { result ≡ replied (logged Y.System Y.Loggable system.now) (table_of session.old) tag numbers.now }
-    ensures system { system-of Y.System.meaning session.new ≡ Y.System.meaning system.now }
+    ensures system { system_of Y.System.meaning session.new ≡ Y.System.meaning system.now }
     ensures after { table_of session.new ≡ goes_in (logged Y.System Y.Loggable system.now) (table_of session.old) tag numbers.now }
-    ensures past { Has-past Y.System.meaning session.old → Has-past Y.System.meaning session.new }
+    ensures past { HasPast Y.System.meaning session.old → HasPast Y.System.meaning session.new }
 {
     match tag {
         Tag::Offr => offer_numbers(system, session, numbers),
@@ -77,7 +77,7 @@ fn shows<Y: Loggable>(session: &Session<Y>, tag: Tag, numbers: &[u32]) -> bool
 
 // The state at the place that a SHOW names.
 fn state_shown<Y: Loggable>(session: &Session<Y>, numbers: &[u32]) -> Y::State
-    ensures { result ≡ (shown (system-of Y.System.meaning session.now) (table_of session.now) (nth numbers.now 0)).1 }
+    ensures { result ≡ (shown (system_of Y.System.meaning session.now) (table_of session.now) (nth numbers.now 0)).1 }
 {
     session.show(number_at(numbers, 0) as usize).1
 }
@@ -89,14 +89,14 @@ fn serve_line<Y: Loggable>(
     line: &Line,
     out: &mut Vec<u8>,
 ) -> Result<(), AllocError>
-    requires same { system-of Y.System.meaning session.old ≡ Y.System.meaning system.now }
-    requires past { Has-past Y.System.meaning session.old }
+    requires same { system_of Y.System.meaning session.old ≡ Y.System.meaning system.now }
+    requires past { HasPast Y.System.meaning session.old }
     requires choices { (Y.System.meaning system.now).count ≤ largest }
     requires few { length (said line.now).1 ≤ most }
-    ensures items { OnOk result (out.new.items ≡ out.old.items ++ line-spelled (says-in (logged Y.System Y.Loggable system.now) (table_of session.old) (said line.now).0 (said line.now).1)) }
-    ensures system { system-of Y.System.meaning session.new ≡ Y.System.meaning system.now }
+    ensures items { OnOk result (out.new.items ≡ out.old.items ++ line_spelled (says_in (logged Y.System Y.Loggable system.now) (table_of session.old) (said line.now).0 (said line.now).1)) }
+    ensures system { system_of Y.System.meaning session.new ≡ Y.System.meaning system.now }
     ensures after { table_of session.new ≡ goes_in (logged Y.System Y.Loggable system.now) (table_of session.old) (said line.now).0 (said line.now).1 }
-    ensures past { Has-past Y.System.meaning session.new }
+    ensures past { HasPast Y.System.meaning session.new }
 {
     let tag = line.tag();
     let numbers = line.numbers();
@@ -117,10 +117,10 @@ fn serve<Y: Loggable>(
     session: &mut Session<Y>,
     out: &mut Vec<u8>,
 ) -> Result<(), AllocError>
-    requires same { system-of Y.System.meaning session.old ≡ Y.System.meaning system.now }
-    requires past { Has-past Y.System.meaning session.old }
+    requires same { system_of Y.System.meaning session.old ≡ Y.System.meaning system.now }
+    requires past { HasPast Y.System.meaning session.old }
     requires choices { (Y.System.meaning system.now).count ≤ largest }
-    ensures { OnOk result (out.new.items ≡ out.old.items ++ spelled (served (logged Y.System Y.Loggable system.now) (table_of session.old) (lines-ahead reader.old))) }
+    ensures { OnOk result (out.new.items ≡ out.old.items ++ spelled (served (logged Y.System Y.Loggable system.now) (table_of session.old) (lines_ahead reader.old))) }
 {
     while !reader.at_end() {
         let line = reader.next_line();
@@ -137,7 +137,7 @@ pub(crate) fn serve_session<Y: Loggable>(
     out: &mut Vec<u8>,
 ) -> Result<(), AllocError>
     requires { (Y.System.meaning system.now).count ≤ largest }
-    ensures { OnOk result (out.new.items ≡ out.old.items ++ spelled (served (logged Y.System Y.Loggable system.now) (empty cells.old) (lines-ahead reader.old))) }
+    ensures { OnOk result (out.new.items ≡ out.old.items ++ spelled (served (logged Y.System Y.Loggable system.now) (empty cells.old) (lines_ahead reader.old))) }
 {
     let mut session = Session::open(system, cells);
     serve(reader, system, &mut session, out)?;

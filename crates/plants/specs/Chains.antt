@@ -1,10 +1,10 @@
 -- Runs of a plant as chains of states.
 use Rattle.std.specs.Prelude.{◌≡◌, ℕ, List, [], ◌∷◌}
 use Rattle.systems.specs.Systems.{Run, last}
-use Rattle.plants.specs.Records.{first-state}
+use Rattle.plants.specs.Records.{first_state}
 use Rattle.plants.specs.Tick.{Order}
 use Rattle.plants.specs.Rules.{Tick}
-use Rattle.plants.specs.Meanings.{plant-meaning}
+use Rattle.plants.specs.Meanings.{plant_meaning}
 use Rattle.plants.specs.declared.layout.Layout.{Layout}
 use Rattle.plants.specs.declared.state.PlantState.{PlantState}
 
@@ -21,7 +21,7 @@ end_of s [] = s
 end_of s (x ∷ xs) = end_of x xs
 
 -- a list of choices is a run exactly when there are states that it chains from the first, and they end where the run does
-pub record Runs-chain (order : Order) (l : Layout) (cs : List ℕ) : Type 0 where
-  pub run-chains : Run (plant-meaning order l) cs → (xs : List PlantState) × Chains order l first-state cs xs
-  pub chain_runs : (xs : List PlantState) → Chains order l first-state cs xs
-      → Run (plant-meaning order l) cs × (end_of first-state xs ≡ last (plant-meaning order l) cs)
+pub record RunsChain (order : Order) (l : Layout) (cs : List ℕ) : Type 0 where
+  pub run_chains : Run (plant_meaning order l) cs → (xs : List PlantState) × Chains order l first_state cs xs
+  pub chain_runs : (xs : List PlantState) → Chains order l first_state cs xs
+      → Run (plant_meaning order l) cs × (end_of first_state xs ≡ last (plant_meaning order l) cs)

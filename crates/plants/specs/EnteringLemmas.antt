@@ -6,17 +6,17 @@ use Rattle.std.proofs.lemmas.Nat.{leading_top, pow_pos, shr-shr, shr_le, le-div,
 use Rattle.std.proofs.lemmas.Bool.{and_from, and_parts, both_ways, not_from_true, eqb-false, eq-eqb, ne_eqb, leb-false, ltb-false, lt-leb, le-leb, le-ltb, cases_lt, cond-false}
 use Rattle.std.proofs.lemmas.Bool.Decides.{nat_tests}
 use Rattle.policies.specs.Classes.{classes}
-use Rattle.policies.specs.Orders.{earliest-deadline, preemptive}
+use Rattle.policies.specs.Orders.{earliest_deadline, preemptive}
 use Rattle.systems.specs.Lowest.{lowest}
-use Rattle.systems.specs.Outcomes.{answer-of, accepts}
+use Rattle.systems.specs.Outcomes.{answer_of, accepts}
 use Rattle.systems.specs.declared.outcome.Outcome.{Outcome}
 use Rattle.systems.specs.declared.outcome.Outcome.TheVariants.{Accepted, FieldOutside, NoRoom, NotEntered, GapsUnlike}
-use Rattle.systems.proofs.Lowest.{refuted, lowest-none, lowest-past}
-use Rattle.plants.specs.Limits.{most-ticks, most-resources, most-tasks}
+use Rattle.systems.proofs.Lowest.{refuted, lowest_none, lowest_past}
+use Rattle.plants.specs.Limits.{most_ticks, most_resources, most_tasks}
 use Rattle.plants.specs.Bits.{bit}
 use Rattle.plants.specs.Layouts.{is_within, unlike}
-use Rattle.plants.specs.Entries.{resource-comes-to, task-comes-to, outside-field, if-inside}
-use Rattle.plants.specs.Entering.{Enters-resource, One-gap, Enters-task, Entered-exactly}
+use Rattle.plants.specs.Entries.{resource_comes_to, task_comes_to, outside_field, if_inside}
+use Rattle.plants.specs.Entering.{EntersResource, OneGap, EntersTask, EnteredExactly}
 use Rattle.plants.specs.declared.layout.TaskEntry.{TaskEntry}
 use Rattle.plants.specs.declared.layout.Layout.{Layout}
 
@@ -25,48 +25,48 @@ passed : (b : Bool) (x y : Outcome) → accepts x ≡ false → accepts (cond b 
 passed true x y n h = absurd (both_ways (accepts x) n h)
 passed false x y n h = (refl, h)
 
-inside : (o : Option ℕ) (rest : Outcome) → accepts (if-inside o rest) ≡ true → (o ≡ None) × (accepts rest ≡ true)
+inside : (o : Option ℕ) (rest : Outcome) → accepts (if_inside o rest) ≡ true → (o ≡ None) × (accepts rest ≡ true)
 inside None rest h = (refl, h)
 inside (Some field) rest h = absurd (both_ways (accepts (FieldOutside field)) refl h)
 
-not-outside : (o : Option ℕ) (rest : Outcome) → o ≡ None → if-inside o rest ≡ rest
-not-outside o rest e = ap (λ q. if-inside q rest) e
+not_outside : (o : Option ℕ) (rest : Outcome) → o ≡ None → if_inside o rest ≡ rest
+not_outside o rest e = ap (λ q. if_inside q rest) e
 
 none : (b : Bool) (field : ℕ) (o : Option ℕ) → cond b (Some field) o ≡ None → (b ≡ false) × (o ≡ None)
 none true field o h = let z : ◌≡◌ {A = ℕ} 0 1 = cc in absurd (omega arith)
 none false field o h = (refl, h)
 
 -- an answer whose outcome is accepted exactly when what is asked for enters
-pub exactly : (Enters : Type 0) (number : ℕ) (o : Outcome) (answer : ℕ × ℕ) → answer ≡ answer-of o → (accepts o ≡ true → Enters) → (Enters → o ≡ Accepted number) → Entered-exactly Enters number answer
+pub exactly : (Enters : Type 0) (number : ℕ) (o : Outcome) (answer : ℕ × ℕ) → answer ≡ answer_of o → (accepts o ≡ true → Enters) → (Enters → o ≡ Accepted number) → EnteredExactly Enters number answer
 exactly Enters number o answer e f g = record {
   accepted = λ z. f (eq-eqb _ _ (sym (ap (λ (q : ℕ × ℕ). q.0) e) ∙ z));
-  enters = λ h. e ∙ ap answer-of (g h);
+  enters = λ h. e ∙ ap answer_of (g h);
 }
 
 -- A resource
 
 module _ (l : Layout) (policy preempt : ℕ) where
-  pub resource-enters : l.resource_count ≤ most-resources → accepts (resource-comes-to l policy preempt) ≡ true → Enters-resource l policy preempt
-  resource-enters few h =
-      let room = passed (l.resource_count == most-resources) NoRoom _ refl h in
-      let known = passed (nat_lt earliest-deadline policy) (FieldOutside 1) _ refl room.1 in
+  pub resource_enters : l.resource_count ≤ most_resources → accepts (resource_comes_to l policy preempt) ≡ true → EntersResource l policy preempt
+  resource_enters few h =
+      let room = passed (l.resource_count == most_resources) NoRoom _ refl h in
+      let known = passed (nat_lt earliest_deadline policy) (FieldOutside 1) _ refl room.1 in
       let flag = passed (nat_lt preemptive preempt) (FieldOutside 2) _ refl known.1 in
-      record { room = omega (arith, eqb-false _ _ room.0); policy-known = ltb-false _ _ known.0; preempt-known = ltb-false _ _ flag.0 }
+      record { room = omega (arith, eqb-false _ _ room.0); policy_known = ltb-false _ _ known.0; preempt_known = ltb-false _ _ flag.0 }
 
-  pub enters-resource : Enters-resource l policy preempt → resource-comes-to l policy preempt ≡ Accepted l.resource_count
-  enters-resource h =
-      cond-false _ _ _ (ne_eqb _ _ (λ (e : l.resource_count ≡ most-resources). omega arith)) ∙ cond-false _ _ _ (le-ltb _ _ h.policy-known) ∙ cond-false _ _ _ (le-ltb _ _ h.preempt-known)
+  pub enters_resource : EntersResource l policy preempt → resource_comes_to l policy preempt ≡ Accepted l.resource_count
+  enters_resource h =
+      cond-false _ _ _ (ne_eqb _ _ (λ (e : l.resource_count ≡ most_resources). omega arith)) ∙ cond-false _ _ _ (le-ltb _ _ h.policy_known) ∙ cond-false _ _ _ (le-ltb _ _ h.preempt_known)
 
 -- The tasks that an entry needs
 
-below-pow : (n : ℕ) → n < 2 ^ n
-below-pow zero = omega arith
-below-pow (suc n) = omega (arith, two-pow-succ n, below-pow n)
+below_pow : (n : ℕ) → n < 2 ^ n
+below_pow zero = omega arith
+below_pow (suc n) = omega (arith, two-pow-succ n, below_pow n)
 
 -- the highest bit of a number that is not 0
-some-bit : (n : ℕ) → 0 < n → (j : ℕ) × (bit n j ≡ true)
-some-bit n h =
-    let top = leading_top n n h (below-pow n) in
+some_bit : (n : ℕ) → 0 < n → (j : ℕ) × (bit n j ≡ true)
+some_bit n h =
+    let top = leading_top n n h (below_pow n) in
     let j = top.0 in
     let low = le-div 1 n (2 ^ j) (pow_pos j) (omega arith) in
     let high = div_below n (2 ^ j) 2 (pow_pos j) (omega (arith, two-pow-succ j)) in
@@ -86,37 +86,37 @@ bits_below n c z j b = ⊎_elim
 none_above : (n c : ℕ) → ((j : ℕ) → bit n j ≡ true → j < c) → n / 2 ^ c ≤ 0
 none_above n c f = ⊎_elim
     (λ (lt : 0 < n / 2 ^ c).
-    let b = some-bit (n / 2 ^ c) lt in
+    let b = some_bit (n / 2 ^ c) lt in
     let high : c + b.0 < c = f (c + b.0) (ap (λ k. nat_eq (k % 2) 1) (sym (shr-shr n c b.0)) ∙ b.1) in
     absurd (omega arith))
     (λ (le : n / 2 ^ c ≤ 0). le)
     (cases_lt 0 (n / 2 ^ c))
 
 module _ (l : Layout) (e : TaskEntry) (j : ℕ) where
-  like-gap : unlike l e j ≡ false → bit e.needs j ≡ true → One-gap l e j
-  like-gap f b = record { own = grind (arith, nat_tests); least = grind (arith, nat_tests); greatest = grind (arith, nat_tests) }
+  like_gap : unlike l e j ≡ false → bit e.needs j ≡ true → OneGap l e j
+  like_gap f b = record { own = grind (arith, nat_tests); least = grind (arith, nat_tests); greatest = grind (arith, nat_tests) }
 
-  gap-like : (bit e.needs j ≡ true → One-gap l e j) → unlike l e j ≡ false
-  gap-like f = refuted (unlike l e j) (λ u. let g = f (and_parts (bit e.needs j) _ u).0 in grind (arith, nat_tests))
+  gap_like : (bit e.needs j ≡ true → OneGap l e j) → unlike l e j ≡ false
+  gap_like f = refuted (unlike l e j) (λ u. let g = f (and_parts (bit e.needs j) _ u).0 in grind (arith, nat_tests))
 
 -- A task
 
 module _ (l : Layout) (e : TaskEntry) where
-  pub admitted : accepts (task-comes-to l e) ≡ true → l.count ≤ most-tasks → Enters-task l e
+  pub admitted : accepts (task_comes_to l e) ≡ true → l.count ≤ most_tasks → EntersTask l e
   admitted h few =
-      let room = passed (l.count == most-tasks) NoRoom _ refl h in
-      let fields = inside (outside-field e) _ room.1 in
-      let f1 = none (not (is_within 0 most-ticks e.offset)) 1 _ fields.0 in
-      let f2 = none (not (is_within 1 most-ticks e.least)) 2 _ f1.1 in
-      let f3 = none (not (is_within e.least most-ticks e.greatest)) 3 _ f2.1 in
-      let f4 = none (not (is_within 1 most-ticks e.best)) 4 _ f3.1 in
-      let f5 = none (not (is_within e.best most-ticks e.worst)) 5 _ f4.1 in
+      let room = passed (l.count == most_tasks) NoRoom _ refl h in
+      let fields = inside (outside_field e) _ room.1 in
+      let f1 = none (not (is_within 0 most_ticks e.offset)) 1 _ fields.0 in
+      let f2 = none (not (is_within 1 most_ticks e.least)) 2 _ f1.1 in
+      let f3 = none (not (is_within e.least most_ticks e.greatest)) 3 _ f2.1 in
+      let f4 = none (not (is_within 1 most_ticks e.best)) 4 _ f3.1 in
+      let f5 = none (not (is_within e.best most_ticks e.worst)) 5 _ f4.1 in
       let f6 = none (not (is_within 1 e.least e.deadline)) 6 _ f5.1 in
       let f7 = none (nat_le classes e.class) 7 _ f6.1 in
       let on = passed (nat_le l.resource_count e.resource) (NotEntered 8) _ refl fields.1 in
       let earlier = passed (nat_lt 0 (e.needs / 2 ^ l.count)) (NotEntered 9) _ refl on.1 in
-      let unlike-at = lowest (unlike l e) l.count in
-      let alike = passed (nat_lt unlike-at l.count) (GapsUnlike unlike-at) _ refl earlier.1 in
+      let unlike_at = lowest (unlike l e) l.count in
+      let alike = passed (nat_lt unlike_at l.count) (GapsUnlike unlike_at) _ refl earlier.1 in
       record {
         room = omega (arith, eqb-false _ _ room.0);
         offset = (within f1.0).1;
@@ -129,23 +129,23 @@ module _ (l : Layout) (e : TaskEntry) where
         resource = leb-false _ _ on.0;
         needs = λ j b.
             let lt = bits_below e.needs l.count (ltb-false _ _ earlier.0) j b in
-            (lt, like-gap l e j (lowest-none (unlike l e) l.count (ltb-false _ _ alike.0) j lt) b);
+            (lt, like_gap l e j (lowest_none (unlike l e) l.count (ltb-false _ _ alike.0) j lt) b);
       }
     where
       within : {low high x : ℕ} → not (is_within low high x) ≡ false → (low ≤ x) × (x ≤ high)
       within {low} {high} {x} f = grind (arith, nat_tests)
 
-  pub enters-task : Enters-task l e → task-comes-to l e ≡ Accepted l.count
-  enters-task h =
-      let in-range : (low high x : ℕ) → low ≤ x → x ≤ high → not (is_within low high x) ≡ false = λ low high x a b. not_from_true _ (and_from _ _ (le-leb _ _ a) (le-leb _ _ b)) in
-      let fields : outside-field e ≡ None =
-      cond-false _ _ _ (in-range 0 most-ticks e.offset (omega arith) h.offset) ∙ cond-false _ _ _ (in-range 1 most-ticks e.least h.least.0 h.least.1)
-      ∙ cond-false _ _ _ (in-range e.least most-ticks e.greatest h.greatest.0 h.greatest.1)
-      ∙ cond-false _ _ _ (in-range 1 most-ticks e.best h.best.0 h.best.1)
-      ∙ cond-false _ _ _ (in-range e.best most-ticks e.worst h.worst.0 h.worst.1)
-      ∙ cond-false _ _ _ (in-range 1 e.least e.deadline h.deadline.0 h.deadline.1) ∙ cond-false _ _ _ (lt-leb _ _ h.class) in
-      let alike = lowest-past (unlike l e) 0 l.count refl (omega arith) (λ j _ _. gap-like l e j (λ b. (h.needs j b).1)) in
+  pub enters_task : EntersTask l e → task_comes_to l e ≡ Accepted l.count
+  enters_task h =
+      let in_range : (low high x : ℕ) → low ≤ x → x ≤ high → not (is_within low high x) ≡ false = λ low high x a b. not_from_true _ (and_from _ _ (le-leb _ _ a) (le-leb _ _ b)) in
+      let fields : outside_field e ≡ None =
+      cond-false _ _ _ (in_range 0 most_ticks e.offset (omega arith) h.offset) ∙ cond-false _ _ _ (in_range 1 most_ticks e.least h.least.0 h.least.1)
+      ∙ cond-false _ _ _ (in_range e.least most_ticks e.greatest h.greatest.0 h.greatest.1)
+      ∙ cond-false _ _ _ (in_range 1 most_ticks e.best h.best.0 h.best.1)
+      ∙ cond-false _ _ _ (in_range e.best most_ticks e.worst h.worst.0 h.worst.1)
+      ∙ cond-false _ _ _ (in_range 1 e.least e.deadline h.deadline.0 h.deadline.1) ∙ cond-false _ _ _ (lt-leb _ _ h.class) in
+      let alike = lowest_past (unlike l e) 0 l.count refl (omega arith) (λ j _ _. gap_like l e j (λ b. (h.needs j b).1)) in
       let past : l.count ≤ lowest (unlike l e) l.count = omega arith in
-      cond-false _ _ _ (ne_eqb _ _ (λ (q : l.count ≡ most-tasks). omega arith)) ∙ not-outside (outside-field e) _ fields
+      cond-false _ _ _ (ne_eqb _ _ (λ (q : l.count ≡ most_tasks). omega arith)) ∙ not_outside (outside_field e) _ fields
       ∙ cond-false _ _ _ (lt-leb _ _ h.resource) ∙ cond-false _ _ _ (le-ltb _ _ (none_above e.needs l.count (λ j b. (h.needs j b).0)))
       ∙ cond-false _ _ _ (le-ltb _ _ past)

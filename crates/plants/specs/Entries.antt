@@ -1,50 +1,50 @@
 -- What an entry into a draft comes to, and what it leaves.
 use Rattle.std.specs.Prelude.{ℕ, ◌/◌, ◌^◌, cond, not, Some, None, Option, ◌==◌, nat_le, nat_lt}
 use Rattle.policies.specs.Classes.{classes}
-use Rattle.policies.specs.Orders.{earliest-deadline, preemptive}
+use Rattle.policies.specs.Orders.{earliest_deadline, preemptive}
 use Rattle.systems.specs.Lowest.{lowest}
 use Rattle.systems.specs.Outcomes.{accepts}
 use Rattle.systems.specs.declared.outcome.Outcome.{Outcome}
 use Rattle.systems.specs.declared.outcome.Outcome.TheVariants.{Accepted, FieldOutside, NoRoom, NotEntered, GapsUnlike}
-use Rattle.plants.specs.Limits.{most-ticks, most-resources, most-tasks}
-use Rattle.plants.specs.Layouts.{is_within, unlike, entered, with-task, with-resource}
+use Rattle.plants.specs.Limits.{most_ticks, most_resources, most_tasks}
+use Rattle.plants.specs.Layouts.{is_within, unlike, entered, with_task, with_resource}
 use Rattle.plants.specs.declared.layout.TaskEntry.{TaskEntry}
 use Rattle.plants.specs.declared.layout.Layout.{Layout}
 
 -- a policy number is 0 to 2, and a preempt number 0 or 1
-abbrev pub resource-comes-to : Layout → ℕ → ℕ → Outcome
-resource-comes-to l policy preempt =
-    cond (l.resource_count == most-resources) NoRoom
-    (cond (nat_lt earliest-deadline policy) (FieldOutside 1) (cond (nat_lt preemptive preempt) (FieldOutside 2) (Accepted l.resource_count)))
+abbrev pub resource_comes_to : Layout → ℕ → ℕ → Outcome
+resource_comes_to l policy preempt =
+    cond (l.resource_count == most_resources) NoRoom
+    (cond (nat_lt earliest_deadline policy) (FieldOutside 1) (cond (nat_lt preemptive preempt) (FieldOutside 2) (Accepted l.resource_count)))
 
-abbrev pub after-resource : Layout → ℕ → ℕ → Layout
-after-resource l policy preempt =
-    cond (accepts (resource-comes-to l policy preempt)) (with-resource l (record { policy = policy; preempt = preempt })) l
+abbrev pub after_resource : Layout → ℕ → ℕ → Layout
+after_resource l policy preempt =
+    cond (accepts (resource_comes_to l policy preempt)) (with_resource l (record { policy = policy; preempt = preempt })) l
 
 -- the first field that is outside its range, from the left
-abbrev pub outside-field : TaskEntry → Option ℕ
-outside-field e =
-    cond (not (is_within 0 most-ticks e.offset)) (Some 1)
-    (cond (not (is_within 1 most-ticks e.least)) (Some 2)
-    (cond (not (is_within e.least most-ticks e.greatest)) (Some 3)
-    (cond (not (is_within 1 most-ticks e.best)) (Some 4)
-    (cond (not (is_within e.best most-ticks e.worst)) (Some 5)
+abbrev pub outside_field : TaskEntry → Option ℕ
+outside_field e =
+    cond (not (is_within 0 most_ticks e.offset)) (Some 1)
+    (cond (not (is_within 1 most_ticks e.least)) (Some 2)
+    (cond (not (is_within e.least most_ticks e.greatest)) (Some 3)
+    (cond (not (is_within 1 most_ticks e.best)) (Some 4)
+    (cond (not (is_within e.best most_ticks e.worst)) (Some 5)
     (cond (not (is_within 1 e.least e.deadline)) (Some 6)
     (cond (nat_le classes e.class) (Some 7) None))))))
 
 -- what stands where no field is outside its range
-abbrev pub if-inside : Option ℕ → Outcome → Outcome
-if-inside (Some field) o = FieldOutside field
-if-inside None o = o
+abbrev pub if_inside : Option ℕ → Outcome → Outcome
+if_inside (Some field) o = FieldOutside field
+if_inside None o = o
 
 -- a needed task that is not entered is a bit at or above the place of the count
-abbrev pub task-comes-to : Layout → TaskEntry → Outcome
-task-comes-to l e =
-    cond (l.count == most-tasks) NoRoom
-    (if-inside (outside-field e)
+abbrev pub task_comes_to : Layout → TaskEntry → Outcome
+task_comes_to l e =
+    cond (l.count == most_tasks) NoRoom
+    (if_inside (outside_field e)
     (cond (nat_le l.resource_count e.resource) (NotEntered 8)
     (cond (nat_lt 0 (e.needs / 2 ^ l.count)) (NotEntered 9)
     (cond (nat_lt (lowest (unlike l e) l.count) l.count) (GapsUnlike (lowest (unlike l e) l.count)) (Accepted l.count)))))
 
-abbrev pub after-task : Layout → TaskEntry → Layout
-after-task l e = cond (accepts (task-comes-to l e)) (with-task l (entered e)) l
+abbrev pub after_task : Layout → TaskEntry → Layout
+after_task l e = cond (accepts (task_comes_to l e)) (with_task l (entered e)) l

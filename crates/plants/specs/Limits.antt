@@ -2,11 +2,11 @@
 use Rattle.std.specs.Prelude.{ℕ}
 
 -- the greatest number of ticks that a field of a task may be
-abbrev pub most-ticks : ℕ
-most-ticks = 255
+abbrev pub most_ticks : ℕ
+most_ticks = 255
 
-abbrev pub most-resources : ℕ
-most-resources = 4
+abbrev pub most_resources : ℕ
+most_resources = 4
 
-abbrev pub most-tasks : ℕ
-most-tasks = 8
+abbrev pub most_tasks : ℕ
+most_tasks = 8

@@ -1,8 +1,8 @@
 -- One tick as a relation: what becomes of each task, in the rules' own words.
 use Rattle.std.specs.Prelude.{◌≡◌, ℕ, ◌+◌, ◌^◌, ◌<◌, ◌≤◌, true, false, ◌⊎◌, length, Some, None, Option, ◌≢◌}
-use Rattle.plants.specs.Limits.{most-tasks}
+use Rattle.plants.specs.Limits.{most_tasks}
 use Rattle.plants.specs.Bits.{bit}
-use Rattle.plants.specs.Layouts.{task-at}
+use Rattle.plants.specs.Layouts.{task_at}
 use Rattle.plants.specs.Records.{at, blank, released, readied, finished}
 use Rattle.plants.specs.Tick.{Order, goes_before, claiming}
 use Rattle.plants.specs.declared.layout.Task.{Task}
@@ -11,12 +11,12 @@ use Rattle.plants.specs.declared.state.Record.{Record}
 use Rattle.plants.specs.declared.state.PlantState.{PlantState}
 use Rattle.plants.specs.declared.state.Phase.TheVariants.{Before, Done, Held, Ready}
 
-abbrev pub record-at : PlantState → ℕ → Record
-record-at s k = at s.records k
+abbrev pub record_at : PlantState → ℕ → Record
+record_at s k = at s.records k
 
 -- Which states fit, and which are bad
 
-pub record Fits-task (t : Task) (r : Record) : Type 0 where
+pub record FitsTask (t : Task) (r : Record) : Type 0 where
   pub before : r.phase ≡ Before → r.since ≤ t.offset
   pub done : r.phase ≡ Done → (1 ≤ r.since) × (r.since ≤ t.greatest)
   pub held : r.phase ≡ Held → r.since ≤ t.deadline
@@ -26,54 +26,54 @@ pub record Fits-task (t : Task) (r : Record) : Type 0 where
 
 pub record Fits (l : Layout) (s : PlantState) : Type 0 where
   -- there are as many records as there should be
-  pub long : length s.records ≡ most-tasks
-  pub entered : (k : ℕ) → k < l.count → Fits-task (task-at l k) (record-at s k)
+  pub long : length s.records ≡ most_tasks
+  pub entered : (k : ℕ) → k < l.count → FitsTask (task_at l k) (record_at s k)
   -- a task that is not entered has four zeros
-  pub others : (k : ℕ) → k < most-tasks → l.count ≤ k → record-at s k ≡ blank
+  pub others : (k : ℕ) → k < most_tasks → l.count ≤ k → record_at s k ≡ blank
 
 -- a held or ready task has come to its deadline
 abbrev pub Late : Task → Record → Type 0
 Late t r = ((r.phase ≡ Held) ⊎ (r.phase ≡ Ready)) × (r.since ≡ t.deadline)
 
 abbrev pub Bad : Layout → PlantState → Type 0
-Bad l s = (k : ℕ) × (k < l.count) × Late (task-at l k) (record-at s k)
+Bad l s = (k : ℕ) × (k < l.count) × Late (task_at l k) (record_at s k)
 
 -- there are as many records as there should be, and those of tasks not entered stay
-pub record Others-stay (l : Layout) (s s' : PlantState) : Type 0 where
-  pub long : length s'.records ≡ most-tasks
-  pub stay : (k : ℕ) → k < most-tasks → l.count ≤ k → record-at s' k ≡ record-at s k
+pub record OthersStay (l : Layout) (s s' : PlantState) : Type 0 where
+  pub long : length s'.records ≡ most_tasks
+  pub stay : (k : ℕ) → k < most_tasks → l.count ≤ k → record_at s' k ≡ record_at s k
 
 -- Rule 1: before its first release a task is released exactly when since equals the offset; when done it may be released
 -- when since is at least the least gap, and must be when since equals the greatest; otherwise it may not
 
-abbrev pub May-release : Task → Record → Type 0
-May-release t r = ((r.phase ≡ Before) × (r.since ≡ t.offset)) ⊎ ((r.phase ≡ Done) × (t.least ≤ r.since))
+abbrev pub MayRelease : Task → Record → Type 0
+MayRelease t r = ((r.phase ≡ Before) × (r.since ≡ t.offset)) ⊎ ((r.phase ≡ Done) × (t.least ≤ r.since))
 
-abbrev pub Must-release : Task → Record → Type 0
-Must-release t r = ((r.phase ≡ Before) × (r.since ≡ t.offset)) ⊎ ((r.phase ≡ Done) × (r.since ≡ t.greatest))
+abbrev pub MustRelease : Task → Record → Type 0
+MustRelease t r = ((r.phase ≡ Before) × (r.since ≡ t.offset)) ⊎ ((r.phase ≡ Done) × (r.since ≡ t.greatest))
 
 pub record Releases (l : Layout) (c : ℕ) (s s' : PlantState) : Type 0 where
-  pub releases : (k : ℕ) → k < l.count → bit c k ≡ true → May-release (task-at l k) (record-at s k) × (record-at s' k ≡ released)
-  pub leaves : (k : ℕ) → k < l.count → bit c k ≡ false → (Must-release (task-at l k) (record-at s k) → ⊥) × (record-at s' k ≡ record-at s k)
-  pub others : Others-stay l s s'
+  pub releases : (k : ℕ) → k < l.count → bit c k ≡ true → MayRelease (task_at l k) (record_at s k) × (record_at s' k ≡ released)
+  pub leaves : (k : ℕ) → k < l.count → bit c k ≡ false → (MustRelease (task_at l k) (record_at s k) → ⊥) × (record_at s' k ≡ record_at s k)
+  pub others : OthersStay l s s'
 
 -- Rule 2: after all releases, a held task whose needed tasks are all done becomes ready
 
-abbrev pub Comes-ready : Layout → PlantState → ℕ → Type 0
-Comes-ready l s k =
-    ((record-at s k).phase ≡ Held) × ((j : ℕ) → j < most-tasks → bit (task-at l k).needs j ≡ true → (record-at s j).phase ≡ Done)
+abbrev pub ComesReady : Layout → PlantState → ℕ → Type 0
+ComesReady l s k =
+    ((record_at s k).phase ≡ Held) × ((j : ℕ) → j < most_tasks → bit (task_at l k).needs j ≡ true → (record_at s j).phase ≡ Done)
 
 pub record Readies (l : Layout) (s s' : PlantState) : Type 0 where
-  pub readies : (k : ℕ) → k < l.count → Comes-ready l s k → record-at s' k ≡ readied (record-at s k)
-  pub leaves : (k : ℕ) → k < l.count → (Comes-ready l s k → ⊥) → record-at s' k ≡ record-at s k
-  pub others : Others-stay l s s'
+  pub readies : (k : ℕ) → k < l.count → ComesReady l s k → record_at s' k ≡ readied (record_at s k)
+  pub leaves : (k : ℕ) → k < l.count → (ComesReady l s k → ⊥) → record_at s' k ≡ record_at s k
+  pub others : OthersStay l s s'
 
 -- Rule 3: on each resource the ready task that goes before every other ready one on it runs
 
 abbrev pub Runs : Order → Layout → PlantState → ℕ → Type 0
 Runs order l s k =
-    ((record-at s k).phase ≡ Ready)
-    × ((j : ℕ) → j < l.count → (k ≢ j) → (record-at s j).phase ≡ Ready → (task-at l k).resource ≡ (task-at l j).resource
+    ((record_at s k).phase ≡ Ready)
+    × ((j : ℕ) → j < l.count → (k ≢ j) → (record_at s j).phase ≡ Ready → (task_at l k).resource ≡ (task_at l j).resource
     → goes_before order l s.records k j ≡ true)
 
 -- Rule 4: every entered task's since, every ready task's waited and every running task's run grow by 1
@@ -82,23 +82,23 @@ pub record Grown (running : Type 0) (r r' : Record) : Type 0 where
   pub phase : r'.phase ≡ r.phase
   pub since : r'.since ≡ r.since + 1
   pub ready : r.phase ≡ Ready → r'.waited ≡ r.waited + 1
-  pub not-ready : (r.phase ≢ Ready) → r'.waited ≡ r.waited
+  pub not_ready : (r.phase ≢ Ready) → r'.waited ≡ r.waited
   pub runs : running → r'.run ≡ r.run + 1
   pub rests : (running → ⊥) → r'.run ≡ r.run
 
 pub record Grows (order : Order) (l : Layout) (s s' : PlantState) : Type 0 where
-  pub grows : (k : ℕ) → k < l.count → Grown (Runs order l s k) (record-at s k) (record-at s' k)
-  pub others : Others-stay l s s'
+  pub grows : (k : ℕ) → k < l.count → Grown (Runs order l s k) (record_at s k) (record_at s' k)
+  pub others : OthersStay l s s'
 
 -- Rule 5: a running task must finish when run equals its worst time, and may when run is at least its best; no other may;
 -- the tasks run as at s, and have grown at g
 
 pub record Finishes (order : Order) (l : Layout) (c : ℕ) (s g s' : PlantState) : Type 0 where
   pub finishes : (k : ℕ) → k < l.count → bit c (l.count + k) ≡ true
-      → Runs order l s k × ((task-at l k).best ≤ (record-at g k).run) × (record-at s' k ≡ finished (record-at g k))
+      → Runs order l s k × ((task_at l k).best ≤ (record_at g k).run) × (record_at s' k ≡ finished (record_at g k))
   pub leaves : (k : ℕ) → k < l.count → bit c (l.count + k) ≡ false
-      → (Runs order l s k → (record-at g k).run ≢ (task-at l k).worst) × (record-at s' k ≡ record-at g k)
-  pub others : Others-stay l g s'
+      → (Runs order l s k → (record_at g k).run ≢ (task_at l k).worst) × (record_at s' k ≡ record_at g k)
+  pub others : OthersStay l g s'
 
 -- the choice c leads in one tick from s, which fits and is not bad, to s'
 pub record Tick (order : Order) (l : Layout) (c : ℕ) (s s' : PlantState) : Type 0 where
@@ -109,17 +109,17 @@ pub record Tick (order : Order) (l : Layout) (c : ℕ) (s s' : PlantState) : Typ
   pub held : PlantState
   pub ready : PlantState
   pub grown : PlantState
-  pub rule-1 : Releases l c s held
-  pub rule-2 : Readies l held ready
-  pub rule-4 : Grows order l ready grown
-  pub rule-5 : Finishes order l c ready grown s'
+  pub rule_1 : Releases l c s held
+  pub rule_2 : Readies l held ready
+  pub rule_4 : Grows order l ready grown
+  pub rule_5 : Finishes order l c ready grown s'
 
 -- the state after rule 2
-abbrev pub claiming-state : Layout → ℕ → PlantState → PlantState
-claiming-state l c s = record { records = claiming l c s.records }
+abbrev pub claiming_state : Layout → ℕ → PlantState → PlantState
+claiming_state l c s = record { records = claiming l c s.records }
 
 -- exactly one ready task runs on a resource that has a ready one, and r names it
-pub record Names-running (order : Order) (l : Layout) (s : PlantState) (resource : ℕ) (r : Option ℕ) : Type 0 where
-  pub some_runs : (k : ℕ) → r ≡ Some k → (k < l.count) × ((task-at l k).resource ≡ resource) × Runs order l s k
-  pub no_other : (k : ℕ) → r ≡ Some k → (j : ℕ) → j < l.count → (task-at l j).resource ≡ resource → Runs order l s j → j ≡ k
-  pub none-ready : r ≡ None → (k : ℕ) → k < l.count → (task-at l k).resource ≡ resource → (record-at s k).phase ≢ Ready
+pub record NamesRunning (order : Order) (l : Layout) (s : PlantState) (resource : ℕ) (r : Option ℕ) : Type 0 where
+  pub some_runs : (k : ℕ) → r ≡ Some k → (k < l.count) × ((task_at l k).resource ≡ resource) × Runs order l s k
+  pub no_other : (k : ℕ) → r ≡ Some k → (j : ℕ) → j < l.count → (task_at l j).resource ≡ resource → Runs order l s j → j ≡ k
+  pub none_ready : r ≡ None → (k : ℕ) → k < l.count → (task_at l k).resource ≡ resource → (record_at s k).phase ≢ Ready

@@ -5,11 +5,11 @@ use Rattle.std.specs.List.{range_with_len}
 use Rattle.std.specs.Str.{bytes_eq as same_numbers}
 use Rattle.policies.specs.Orders.{site}
 use Rattle.systems.specs.Systems.{Meaning, led}
-use Rattle.plants.specs.Limits.{most-tasks}
+use Rattle.plants.specs.Limits.{most_tasks}
 use Rattle.plants.specs.Layouts.{nothing}
-use Rattle.plants.specs.Entries.{after-resource, after-task}
+use Rattle.plants.specs.Entries.{after_resource, after_task}
 use Rattle.plants.specs.Records.{rec, blank}
-use Rattle.plants.specs.Meanings.{plant-meaning}
+use Rattle.plants.specs.Meanings.{plant_meaning}
 use Rattle.plants.specs.declared.layout.TaskEntry.{TaskEntry}
 use Rattle.plants.specs.declared.layout.Layout.{Layout}
 use Rattle.plants.specs.declared.state.Record.{Record}
@@ -38,18 +38,18 @@ pub record Plan : Type 0 where
 
 -- what a draft holds after these entries
 abbrev layout_of : Plan → Layout
-layout_of p = fold after-task (fold (λ l r. after-resource l r.0 r.1) nothing p.resources) p.tasks
+layout_of p = fold after_task (fold (λ l r. after_resource l r.0 r.1) nothing p.resources) p.tasks
 
 -- no entry was refused
-abbrev all-entered : Plan → Bool
-all-entered p = (layout_of p).resource_count == length p.resources && (layout_of p).count == length p.tasks
+abbrev all_entered : Plan → Bool
+all_entered p = (layout_of p).resource_count == length p.resources && (layout_of p).count == length p.tasks
 
 -- the plant as a system, under the site's policy
-abbrev system-of : Plan → Meaning PlantState
-system-of p = plant-meaning site (layout_of p)
+abbrev system_of : Plan → Meaning PlantState
+system_of p = plant_meaning site (layout_of p)
 
 abbrev state : List Record → PlantState
-state rs = record { records = rs ++ replicate (most-tasks - length rs) blank }
+state rs = record { records = rs ++ replicate (most_tasks - length rs) blank }
 
 -- What is said of a system at a state
 
@@ -59,35 +59,35 @@ pub data Says : Type 0 where
   -- these choices are legal one after the other and lead to this state, which is bad or not
   leads : List ℕ → List Record → Bool → Says
   -- after these choices, legal one after the other, the following are legal, and no other
-  then-only : List ℕ → List ℕ → Says
+  then_only : List ℕ → List ℕ → Says
   -- the state fits and is bad
-  fits-bad : Says
+  fits_bad : Says
 
 -- the legal ones of all the choices, in rising order
 abbrev legals : Meaning PlantState → PlantState → List ℕ
 legals m s = filter (m.legal s) (range_with_len 0 m.count)
 
-abbrev all-legal : Meaning PlantState → PlantState → List ℕ → Bool
-all-legal m s [] = true
-all-legal m s (c ∷ cs) = m.legal s c && all-legal m (m.next s c) cs
+abbrev all_legal : Meaning PlantState → PlantState → List ℕ → Bool
+all_legal m s [] = true
+all_legal m s (c ∷ cs) = m.legal s c && all_legal m (m.next s c) cs
 
 abbrev holds : Meaning PlantState → PlantState → Says → Bool
 holds m s (only cs) = same_numbers (legals m s) cs
-holds m s (leads cs rs b) = all-legal m s cs && m.same (led m s cs) (state rs) && beq (m.bad (led m s cs)) b
-holds m s (then-only ds cs) = all-legal m s ds && same_numbers (legals m (led m s ds)) cs
-holds m s fits-bad = m.fits s && m.bad s
+holds m s (leads cs rs b) = all_legal m s cs && m.same (led m s cs) (state rs) && beq (m.bad (led m s cs)) b
+holds m s (then_only ds cs) = all_legal m s ds && same_numbers (legals m (led m s ds)) cs
+holds m s fits_bad = m.fits s && m.bad s
 
 pub record Schedule : Type 0 where
   pub plan : Plan
   pub from : List Record
   pub says : Says
 
-abbrev schedule-holds : Schedule → Bool
-schedule-holds e = all-entered e.plan && holds (system-of e.plan) (state e.from) e.says
+abbrev schedule_holds : Schedule → Bool
+schedule_holds e = all_entered e.plan && holds (system_of e.plan) (state e.from) e.says
 
 unfoldable pub all_hold : List Schedule → Bool
 all_hold [] = true
-all_hold (e ∷ es) = schedule-holds e && all_hold es
+all_hold (e ∷ es) = schedule_holds e && all_hold es
 
 -- The schedules; a list of no records is the first state
 
@@ -137,12 +137,12 @@ schedules =
     on short [] (only (3 ∷ []))
     ∷ on short [] (leads (3 ∷ []) (rec Done 1 0 0 ∷ []) false)
     ∷ on long [] (leads (1 ∷ 2 ∷ []) (rec Done 2 0 0 ∷ []) false)
-    ∷ on long (rec Ready 2 1 1 ∷ []) fits-bad
+    ∷ on long (rec Ready 2 1 1 ∷ []) fits_bad
     ∷ on loose (rec Done 2 0 0 ∷ []) (only (0 ∷ 3 ∷ []))
     ∷ on (rivals 1) [] (only (11 ∷ []))
     ∷ on (rivals 0) [] (only (7 ∷ []))
     ∷ on (rivals 2) [] (only (7 ∷ []))
-    ∷ on (latecomer 1) [] (then-only (1 ∷ []) (10 ∷ []))
-    ∷ on (latecomer 0) [] (then-only (1 ∷ []) (2 ∷ []))
+    ∷ on (latecomer 1) [] (then_only (1 ∷ []) (10 ∷ []))
+    ∷ on (latecomer 0) [] (then_only (1 ∷ []) (2 ∷ []))
     ∷ on needing [] (leads (7 ∷ 8 ∷ []) (rec Done 2 0 0 ∷ rec Done 2 0 0 ∷ []) false)
     ∷ []

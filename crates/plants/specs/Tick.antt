@@ -1,11 +1,11 @@
 -- One tick of a plant, rule by rule.
 use Rattle.std.specs.Prelude.{ℕ, ◌+◌, ◌-◌, ◌^◌, Bool, cond, not, ◌&&◌, ◌||◌, List, length, ◌==◌, nat_le, nat_lt}
 use Rattle.policies.specs.declared.policy.Claim.{Claim}
-use Rattle.plants.specs.Limits.{most-tasks}
+use Rattle.plants.specs.Limits.{most_tasks}
 use Rattle.plants.specs.Bits.{bit}
-use Rattle.plants.specs.Below.{all-below, any_below}
-use Rattle.plants.specs.Layouts.{task-at, resource-of}
-use Rattle.plants.specs.Records.{is-before, is-done, is_held, is-ready, released, readied, grown-by, finished, at, each}
+use Rattle.plants.specs.Below.{all_below, any_below}
+use Rattle.plants.specs.Layouts.{task_at, resource_of}
+use Rattle.plants.specs.Records.{is_before, is_done, is_held, is_ready, released, readied, grown_by, finished, at, each}
 use Rattle.plants.specs.declared.layout.Task.{Task}
 use Rattle.plants.specs.declared.layout.Layout.{Layout}
 use Rattle.plants.specs.declared.state.Record.{Record}
@@ -24,122 +24,122 @@ fits_in t Done since run waited = nat_le 1 since && nat_le since t.greatest && r
 fits_in t Held since run waited = nat_le since t.deadline && run == 0 && waited == 0
 fits_in t Ready since run waited = nat_le since t.deadline && nat_lt run t.worst && nat_le waited since
 
-abbrev pub fits-task : Task → Record → Bool
-fits-task t r = fits_in t r.phase r.since r.run r.waited
+abbrev pub fits_task : Task → Record → Bool
+fits_task t r = fits_in t r.phase r.since r.run r.waited
 
-abbrev pub is-blank : Record → Bool
-is-blank r = is-before r.phase && r.since == 0 && r.run == 0 && r.waited == 0
+abbrev pub is_blank : Record → Bool
+is_blank r = is_before r.phase && r.since == 0 && r.run == 0 && r.waited == 0
 
-unfoldable pub fits-at : Layout → List Record → ℕ → Bool
-fits-at l rs i = cond (nat_lt i l.count) (fits-task (task-at l i) (at rs i)) (is-blank (at rs i))
+unfoldable pub fits_at : Layout → List Record → ℕ → Bool
+fits_at l rs i = cond (nat_lt i l.count) (fits_task (task_at l i) (at rs i)) (is_blank (at rs i))
 
 -- there are as many records as there should be, and each fits
-unfoldable pub state-fits : Layout → List Record → Bool
-state-fits l rs = length rs == most-tasks && all-below (fits-at l rs) most-tasks
+unfoldable pub state_fits : Layout → List Record → Bool
+state_fits l rs = length rs == most_tasks && all_below (fits_at l rs) most_tasks
 
 -- a held or ready task has come to its deadline
-abbrev pub is-late : Task → Record → Bool
-is-late t r = (is_held r.phase || is-ready r.phase) && r.since == t.deadline
+abbrev pub is_late : Task → Record → Bool
+is_late t r = (is_held r.phase || is_ready r.phase) && r.since == t.deadline
 
-unfoldable pub late-at : Layout → List Record → ℕ → Bool
-late-at l rs i = is-late (task-at l i) (at rs i)
+unfoldable pub late_at : Layout → List Record → ℕ → Bool
+late_at l rs i = is_late (task_at l i) (at rs i)
 
-abbrev pub state-bad : Layout → List Record → Bool
-state-bad l rs = any_below (late-at l rs) l.count
+abbrev pub state_bad : Layout → List Record → Bool
+state_bad l rs = any_below (late_at l rs) l.count
 
 -- Rule 1: releases
 
-abbrev pub release-in : Task → Phase → ℕ → Bool → Bool
-release-in t Before since b = cond b (since == t.offset) (not (since == t.offset))
-release-in t Done since b = cond b (nat_le t.least since) (not (since == t.greatest))
-release-in t Held since b = not b
-release-in t Ready since b = not b
+abbrev pub release_in : Task → Phase → ℕ → Bool → Bool
+release_in t Before since b = cond b (since == t.offset) (not (since == t.offset))
+release_in t Done since b = cond b (nat_le t.least since) (not (since == t.greatest))
+release_in t Held since b = not b
+release_in t Ready since b = not b
 
 -- the release bit of task i obeys the rule
-unfoldable pub release-obeys : Layout → ℕ → List Record → ℕ → Bool
-release-obeys l c rs i = release-in (task-at l i) (at rs i).phase (at rs i).since (bit c i)
+unfoldable pub release_obeys : Layout → ℕ → List Record → ℕ → Bool
+release_obeys l c rs i = release_in (task_at l i) (at rs i).phase (at rs i).since (bit c i)
 
-abbrev pub after-releases : Layout → ℕ → List Record → List Record
-after-releases l c rs = each l.count (λ i r. cond (bit c i) released r) rs
+abbrev pub after_releases : Layout → ℕ → List Record → List Record
+after_releases l c rs = each l.count (λ i r. cond (bit c i) released r) rs
 
 -- Rule 2: after all releases, a held task whose needed tasks are all done becomes ready
 
 unfoldable pub met_at : ℕ → List Record → ℕ → Bool
-met_at needs rs j = not (bit needs j) || is-done (at rs j).phase
+met_at needs rs j = not (bit needs j) || is_done (at rs j).phase
 
-abbrev pub all-met : ℕ → List Record → Bool
-all-met needs rs = all-below (met_at needs rs) most-tasks
+abbrev pub all_met : ℕ → List Record → Bool
+all_met needs rs = all_below (met_at needs rs) most_tasks
 
-unfoldable pub comes-ready : Layout → List Record → ℕ → Bool
-comes-ready l rs i = is_held (at rs i).phase && all-met (task-at l i).needs rs
+unfoldable pub comes_ready : Layout → List Record → ℕ → Bool
+comes_ready l rs i = is_held (at rs i).phase && all_met (task_at l i).needs rs
 
-abbrev pub after-readying : Layout → List Record → List Record
-after-readying l rs = each l.count (λ i r. cond (comes-ready l rs i) (readied r) r) rs
+abbrev pub after_readying : Layout → List Record → List Record
+after_readying l rs = each l.count (λ i r. cond (comes_ready l rs i) (readied r) r) rs
 
 -- Rule 3: on each resource the ready task that goes before every other ready one runs
 
-abbrev pub claim-of : Layout → List Record → ℕ → Claim
-claim-of l rs i = record {
+abbrev pub claim_of : Layout → List Record → ℕ → Claim
+claim_of l rs i = record {
   task = i;
-  priority = (task-at l i).priority;
+  priority = (task_at l i).priority;
   waited = (at rs i).waited;
-  left = (task-at l i).deadline - (at rs i).since;
+  left = (task_at l i).deadline - (at rs i).since;
   run = (at rs i).run;
 }
 
 -- task j is another than i, ready and on the same resource
 abbrev pub rivals : Layout → List Record → ℕ → ℕ → Bool
-rivals l rs i j = not (i == j) && is-ready (at rs j).phase && (task-at l i).resource == (task-at l j).resource
+rivals l rs i j = not (i == j) && is_ready (at rs j).phase && (task_at l i).resource == (task_at l j).resource
 
 module _ (order : Order) (l : Layout) where
   -- task i goes before task j by the policy of its resource
   abbrev pub goes_before : List Record → ℕ → ℕ → Bool
-  goes_before rs i j = order (resource-of l i).policy (resource-of l i).preempt (claim-of l rs i) (claim-of l rs j)
+  goes_before rs i j = order (resource_of l i).policy (resource_of l i).preempt (claim_of l rs i) (claim_of l rs j)
 
   -- task i goes before task j, or j is no rival
   unfoldable pub ahead_of : List Record → ℕ → ℕ → Bool
   ahead_of rs i j = not (rivals l rs i j) || goes_before rs i j
 
-  unfoldable pub task-runs : List Record → ℕ → Bool
-  task-runs rs i = is-ready (at rs i).phase && all-below (ahead_of rs i) l.count
+  unfoldable pub task_runs : List Record → ℕ → Bool
+  task_runs rs i = is_ready (at rs i).phase && all_below (ahead_of rs i) l.count
 
   -- task i is on the resource and runs
   abbrev pub runs_on : List Record → ℕ → ℕ → Bool
-  runs_on rs resource i = (task-at l i).resource == resource && task-runs rs i
+  runs_on rs resource i = (task_at l i).resource == resource && task_runs rs i
 
   -- Rule 4: growth
-  abbrev pub after-growth : List Record → List Record
-  after-growth rs = each l.count (λ i r. grown-by (task-runs rs i) r) rs
+  abbrev pub after_growth : List Record → List Record
+  after_growth rs = each l.count (λ i r. grown_by (task_runs rs i) r) rs
 
 -- Rule 5: finishes
 
 -- the finish bit b of a task that runs or does not, with its run after growth, obeys the rule
-abbrev pub finish-in : Task → Bool → ℕ → Bool → Bool
-finish-in t runs run b = cond b (runs && nat_le t.best run) (not (runs && run == t.worst))
+abbrev pub finish_in : Task → Bool → ℕ → Bool → Bool
+finish_in t runs run b = cond b (runs && nat_le t.best run) (not (runs && run == t.worst))
 
 -- the finish bit of task i obeys the rule, where rs are the records after rule 2
-unfoldable pub finish-obeys : Order → Layout → ℕ → List Record → ℕ → Bool
-finish-obeys order l c rs i =
-    finish-in (task-at l i) (task-runs order l rs i) (grown-by (task-runs order l rs i) (at rs i)).run (bit c (l.count + i))
+unfoldable pub finish_obeys : Order → Layout → ℕ → List Record → ℕ → Bool
+finish_obeys order l c rs i =
+    finish_in (task_at l i) (task_runs order l rs i) (grown_by (task_runs order l rs i) (at rs i)).run (bit c (l.count + i))
 
-abbrev pub after-finishes : Layout → ℕ → List Record → List Record
-after-finishes l c rs = each l.count (λ i r. cond (bit c (l.count + i)) (finished r) r) rs
+abbrev pub after_finishes : Layout → ℕ → List Record → List Record
+after_finishes l c rs = each l.count (λ i r. cond (bit c (l.count + i)) (finished r) r) rs
 
 -- The tick
 
 -- the records after rule 2
 abbrev pub claiming : Layout → ℕ → List Record → List Record
-claiming l c rs = after-readying l (after-releases l c rs)
+claiming l c rs = after_readying l (after_releases l c rs)
 
 module _ (order : Order) (l : Layout) (c : ℕ) (rs : List Record) where
   -- at a state that fits and is not bad, a choice below the count is legal exactly when every bit obeys
-  abbrev pub choice-legal : Bool
-  choice-legal =
-      state-fits l rs && not (state-bad l rs) && nat_lt c (4 ^ l.count) && all-below (release-obeys l c rs) l.count
-      && all-below (finish-obeys order l c (claiming l c rs)) l.count
+  abbrev pub choice_legal : Bool
+  choice_legal =
+      state_fits l rs && not (state_bad l rs) && nat_lt c (4 ^ l.count) && all_below (release_obeys l c rs) l.count
+      && all_below (finish_obeys order l c (claiming l c rs)) l.count
 
   abbrev pub ticked : List Record
-  ticked = after-finishes l c (after-growth order l (claiming l c rs))
+  ticked = after_finishes l c (after_growth order l (claiming l c rs))
 
-  abbrev pub next-records : List Record
-  next-records = cond choice-legal ticked rs
+  abbrev pub next_records : List Record
+  next_records = cond choice_legal ticked rs

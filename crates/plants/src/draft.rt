@@ -1,11 +1,11 @@
 // A draft plant, which takes entries until it is fixed.
 ghost use Rattle.std.specs.Prelude.{◌≡◌, true};
-ghost use Rattle.plants.specs.Layouts.{valid as layout-valid};
+ghost use Rattle.plants.specs.Layouts.{valid as layout_valid};
 
 use crate::layout::Layout;
 
 #[derive(Drop)]
 pub struct DraftPlant {
     pub(crate) layout: Layout,
-    ghost valid: { layout-valid layout ≡ true },
+    ghost valid: { layout_valid layout ≡ true },
 }

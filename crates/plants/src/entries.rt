@@ -1,13 +1,13 @@
 // The calls of a draft: what an entry comes to, what it leaves, and fixing.
 ghost use Rattle.std.specs.Prelude.{◌≡◌, ℕ, ◌<◌, ◌≤◌, List};
 ghost use Rattle.systems.specs.Lowest.{lowest};
-ghost use Rattle.systems.specs.Outcomes.{answer-of};
+ghost use Rattle.systems.specs.Outcomes.{answer_of};
 ghost use Rattle.policies.specs.Classes.{classes};
-ghost use Rattle.plants.specs.Limits.{most-tasks, most-resources};
-ghost use Rattle.plants.specs.Layouts.{nothing, is_within, unlike, entered, with-task, with-resource};
-ghost use Rattle.plants.specs.Chains.{Runs-chain};
-ghost use Rattle.plants.specs.Entries.{outside-field, resource-comes-to, task-comes-to, after-resource, after-task};
-ghost use Rattle.plants.specs.Entering.{Enters-resource, Enters-task, Entered-exactly};
+ghost use Rattle.plants.specs.Limits.{most_tasks, most_resources};
+ghost use Rattle.plants.specs.Layouts.{nothing, is_within, unlike, entered, with_task, with_resource};
+ghost use Rattle.plants.specs.Chains.{RunsChain};
+ghost use Rattle.plants.specs.Entries.{outside_field, resource_comes_to, task_comes_to, after_resource, after_task};
+ghost use Rattle.plants.specs.Entering.{EntersResource, EntersTask, EnteredExactly};
 
 use crate::bits::has_bit;
 use crate::draft::DraftPlant;
@@ -33,9 +33,9 @@ impl DraftPlant {
 
     // Enters a resource and answers its number, or refuses it and changes nothing.
     pub fn add_resource(&mut self, policy: u32, preempt: u32) -> (u32, usize)
-        ensures answer { result ≡ answer-of (resource-comes-to self.old.layout policy preempt) }
-        ensures after { self.new.layout ≡ after-resource self.old.layout policy preempt }
-        ensures exact { Entered-exactly (Enters-resource self.old.layout policy preempt) self.old.layout.resource_count result }
+        ensures answer { result ≡ answer_of (resource_comes_to self.old.layout policy preempt) }
+        ensures after { self.new.layout ≡ after_resource self.old.layout policy preempt }
+        ensures exact { EnteredExactly (EntersResource self.old.layout policy preempt) self.old.layout.resource_count result }
     {
         let outcome = resource_outcome(&self.layout, policy, preempt);
         if let Outcome::Accepted(_) = outcome {
@@ -46,9 +46,9 @@ impl DraftPlant {
 
     // Enters a task and answers its number, or refuses it and changes nothing.
     pub fn add_task(&mut self, task: TaskEntry) -> (u32, usize)
-        ensures answer { result ≡ answer-of (task-comes-to self.old.layout task) }
-        ensures after { self.new.layout ≡ after-task self.old.layout task }
-        ensures exact { Entered-exactly (Enters-task self.old.layout task) self.old.layout.count result }
+        ensures answer { result ≡ answer_of (task_comes_to self.old.layout task) }
+        ensures after { self.new.layout ≡ after_task self.old.layout task }
+        ensures exact { EnteredExactly (EntersTask self.old.layout task) self.old.layout.count result }
     {
         let outcome = task_outcome(&self.layout, &task);
         if let Outcome::Accepted(_) = outcome {
@@ -68,7 +68,7 @@ impl DraftPlant {
     pub fn fix<P: Policy>(self, policy: P) -> Plant<P>
         ensures layout { result.layout ≡ self.layout }
         ensures policy { result.policy ≡ policy }
-        ensures runs { (choices : List ℕ) → Runs-chain (order result.policy) result.layout choices }
+        ensures runs { (choices : List ℕ) → RunsChain (order result.policy) result.layout choices }
     {
         fixed(self, policy)
     }
@@ -115,7 +115,7 @@ fn is_in(low: u32, high: u32, x: u32) -> bool
 }
 
 fn resource_outcome(layout: &Layout, policy: u32, preempt: u32) -> Outcome
-    ensures { result ≡ resource-comes-to layout.now policy preempt }
+    ensures { result ≡ resource_comes_to layout.now policy preempt }
 {
     if layout.resource_count == MOST_RESOURCES {
         Outcome::NoRoom
@@ -129,8 +129,8 @@ fn resource_outcome(layout: &Layout, policy: u32, preempt: u32) -> Outcome
 }
 
 fn with_resource(mut layout: Layout, resource: Resource) -> Layout
-    requires { layout.resource_count < most-resources }
-    ensures { result ≡ with-resource layout resource }
+    requires { layout.resource_count < most_resources }
+    ensures { result ≡ with_resource layout resource }
 {
     layout.resources[layout.resource_count] = resource;
     layout.resource_count += 1;
@@ -138,8 +138,8 @@ fn with_resource(mut layout: Layout, resource: Resource) -> Layout
 }
 
 fn task_outcome(layout: &Layout, task: &TaskEntry) -> Outcome
-    requires { layout.now.count ≤ most-tasks }
-    ensures { result ≡ task-comes-to layout.now task.now }
+    requires { layout.now.count ≤ most_tasks }
+    ensures { result ≡ task_comes_to layout.now task.now }
 {
     if layout.count == MOST_TASKS {
         return Outcome::NoRoom;
@@ -163,7 +163,7 @@ fn task_outcome(layout: &Layout, task: &TaskEntry) -> Outcome
 
 // The first of the fields 1 to 7 that is outside its range.
 fn field_outside(task: &TaskEntry) -> Option<u32>
-    ensures { result ≡ outside-field task.now }
+    ensures { result ≡ outside_field task.now }
 {
     if !is_in(0, MOST_TICKS, task.offset) {
         Some(1)
@@ -186,7 +186,7 @@ fn field_outside(task: &TaskEntry) -> Option<u32>
 
 // The lowest needed task whose gaps are unlike the entry's, or the count of tasks.
 fn first_unlike(layout: &Layout, task: &TaskEntry) -> usize
-    requires { layout.now.count ≤ most-tasks }
+    requires { layout.now.count ≤ most_tasks }
     ensures { result ≡ lowest (unlike layout.now task.now) layout.now.count }
 {
     for j in 0..layout.count {
@@ -199,7 +199,7 @@ fn first_unlike(layout: &Layout, task: &TaskEntry) -> usize
 
 // Whether the entry needs task j and the gaps of the two are not all one number.
 fn is_unlike(layout: &Layout, task: &TaskEntry, j: usize) -> bool
-    requires { j < most-tasks }
+    requires { j < most_tasks }
     ensures { result ≡ unlike layout.now task.now j }
 {
     let needed = layout.tasks[j];
@@ -209,8 +209,8 @@ fn is_unlike(layout: &Layout, task: &TaskEntry, j: usize) -> bool
 }
 
 fn with_task(mut layout: Layout, task: &TaskEntry) -> Layout
-    requires { (layout.count < most-tasks) × (task.now.class < classes) }
-    ensures { result ≡ with-task layout (entered task.now) }
+    requires { (layout.count < most_tasks) × (task.now.class < classes) }
+    ensures { result ≡ with_task layout (entered task.now) }
 {
     layout.tasks[layout.count] = Task {
         offset: task.offset,

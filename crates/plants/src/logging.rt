@@ -1,14 +1,14 @@
 // A plant's state as a line: four numbers for each entered task, in the order of the tasks.
 ghost use Rattle.std.specs.Prelude.{◌≡◌, ◌+◌, ◌*◌, ◌<◌, ◌≤◌, length, take};
-ghost use Rattle.systems.specs.Outcomes.{answer-of};
+ghost use Rattle.systems.specs.Outcomes.{answer_of};
 ghost use Rattle.lines.specs.Writing.{writing, written};
 ghost use Rattle.lines.specs.declared.tag.Tag.TheVariants.{Offr};
-ghost use Rattle.plants.specs.Limits.{most-tasks};
-ghost use Rattle.plants.specs.Below.{all-below};
-ghost use Rattle.plants.specs.Records.{phase-of as phase-numbered};
-ghost use Rattle.plants.specs.Numbers.{per-task, record-numbers as numbers-in, number_at as number_in, state-numbers, record_of, is-phase as phase-test, is-phase-at, state-with, state-of};
-ghost use Rattle.plants.specs.Entered.{valid-parts};
-ghost use Rattle.plants.specs.Numbered.{plant-numbered};
+ghost use Rattle.plants.specs.Limits.{most_tasks};
+ghost use Rattle.plants.specs.Below.{all_below};
+ghost use Rattle.plants.specs.Records.{phase_of as phase_numbered};
+ghost use Rattle.plants.specs.Numbers.{per_task, record_numbers as numbers_in, number_at as number_in, state_numbers, record_of, is_phase as phase_test, is_phase_at, state_with, state_of};
+ghost use Rattle.plants.specs.Entered.{valid_parts};
+ghost use Rattle.plants.specs.Numbered.{plant_numbered};
 
 use crate::plant::Plant;
 use crate::state::{Phase, PlantState, Record};
@@ -25,14 +25,14 @@ const MOST_NUMBERS: usize = 32;
 
 // The four numbers of a record.
 fn record_numbers(r: &Record) -> [u32; PER_TASK]
-    ensures { result ≡ numbers-in r.now }
+    ensures { result ≡ numbers_in r.now }
 {
     [r.phase.number(), r.since, r.run, r.waited]
 }
 
 // Number k of the records.
 fn number_at(state: &PlantState, k: usize) -> u32
-    requires { k < per-task * most-tasks }
+    requires { k < per_task * most_tasks }
     ensures { result ≡ number_in state.now.records k }
 {
     let record = state.records[k / PER_TASK];
@@ -41,8 +41,8 @@ fn number_at(state: &PlantState, k: usize) -> u32
 
 // The numbers of the first n records, and zeros after them.
 fn numbers_of(state: &PlantState, n: usize) -> [u32; MOST_NUMBERS]
-    requires { n ≤ most-tasks }
-    ensures { take (per-task * n) result ≡ state-numbers n state.now.records }
+    requires { n ≤ most_tasks }
+    ensures { take (per_task * n) result ≡ state_numbers n state.now.records }
 {
     let mut numbers = [0; MOST_NUMBERS];
     for k in 0..PER_TASK * n {
@@ -53,9 +53,9 @@ fn numbers_of(state: &PlantState, n: usize) -> [u32; MOST_NUMBERS]
 
 // Writes the first n records as a line.
 fn write_records(state: &PlantState, n: usize, out: &mut [u8]) -> (u32, usize)
-    requires { n ≤ most-tasks }
-    ensures answer { result ≡ answer-of (writing Offr (state-numbers n state.now.records) (length out.old)) }
-    ensures after { out.new ≡ written Offr (state-numbers n state.now.records) out.old }
+    requires { n ≤ most_tasks }
+    ensures answer { result ≡ answer_of (writing Offr (state_numbers n state.now.records) (length out.old)) }
+    ensures after { out.new ≡ written Offr (state_numbers n state.now.records) out.old }
 {
     let numbers = numbers_of(state, n);
     write_line(Tag::Offr, &numbers[0..PER_TASK * n], out)
@@ -63,14 +63,14 @@ fn write_records(state: &PlantState, n: usize, out: &mut [u8]) -> (u32, usize)
 
 // Whether a number is that of a phase.
 fn is_phase(number: u32) -> bool
-    ensures { result ≡ phase-test number }
+    ensures { result ≡ phase_test number }
 {
     number <= 3
 }
 
 // The phase of a number.
 fn phase_of(number: u32) -> Phase
-    ensures { result ≡ phase-numbered number }
+    ensures { result ≡ phase_numbered number }
 {
     match number {
         0 => Phase::Before,
@@ -82,8 +82,8 @@ fn phase_of(number: u32) -> Phase
 
 // Whether each of the first n fours begins with the number of a phase.
 fn are_phases(given: &[u32], n: usize) -> bool
-    requires { length given.now ≡ per-task * n }
-    ensures { result ≡ all-below (is-phase-at given.now) n }
+    requires { length given.now ≡ per_task * n }
+    ensures { result ≡ all_below (is_phase_at given.now) n }
 {
     for i in 0..n {
         if !is_phase(given[PER_TASK * i]) {
@@ -95,7 +95,7 @@ fn are_phases(given: &[u32], n: usize) -> bool
 
 // The record that the i-th four numbers are.
 fn record_at(given: &[u32], i: usize) -> Record
-    requires { per-task * i + 3 < length given.now }
+    requires { per_task * i + 3 < length given.now }
     ensures { result ≡ record_of given.now i }
 {
     let place = PER_TASK * i;
@@ -109,8 +109,8 @@ fn record_at(given: &[u32], i: usize) -> Record
 
 // The state whose first n records are those of the numbers, and whose others are four zeros.
 fn with_records(given: &[u32], n: usize) -> PlantState
-    requires { (n ≤ most-tasks) × (length given.now ≡ per-task * n) }
-    ensures { result ≡ state-with n given.now }
+    requires { (n ≤ most_tasks) × (length given.now ≡ per_task * n) }
+    ensures { result ≡ state_with n given.now }
 {
     let mut state = first();
     for i in 0..n {
@@ -121,8 +121,8 @@ fn with_records(given: &[u32], n: usize) -> PlantState
 
 // The state of n tasks that numbers are, if they are one.
 fn state_in(given: &[u32], n: usize) -> Option<PlantState>
-    requires { n ≤ most-tasks }
-    ensures { result ≡ state-of n given.now }
+    requires { n ≤ most_tasks }
+    ensures { result ≡ state_of n given.now }
 {
     if given.len() != PER_TASK * n || !are_phases(given, n) {
         return None;
@@ -131,11 +131,11 @@ fn state_in(given: &[u32], n: usize) -> Option<PlantState>
 }
 
 impl<P: Policy> Loggable for Plant<P> {
-    ghost numbers = { λ p s. state-numbers p.layout.count s.records };
+    ghost numbers = { λ p s. state_numbers p.layout.count s.records };
 
-    ghost restored = { λ p ns. state-of p.layout.count ns };
+    ghost restored = { λ p ns. state_of p.layout.count ns };
 
-    ghost numbered = { λ x. plant-numbered (P.Policy.order x.policy) x.layout (valid-parts x.layout x.valid) };
+    ghost numbered = { λ x. plant_numbered (P.Policy.order x.policy) x.layout (valid_parts x.layout x.valid) };
 
     fn write(&self, state: &PlantState, out: &mut [u8]) -> (u32, usize) {
         write_records(state, self.layout.count, out)

@@ -1,6 +1,6 @@
 // A fixed plant, under any policy.
 ghost use Rattle.std.specs.Prelude.{◌≡◌, true};
-ghost use Rattle.plants.specs.Layouts.{valid as layout-valid};
+ghost use Rattle.plants.specs.Layouts.{valid as layout_valid};
 
 use crate::layout::Layout;
 
@@ -8,5 +8,5 @@ use crate::layout::Layout;
 pub struct Plant<P> {
     pub(crate) layout: Layout,
     pub(crate) policy: P,
-    ghost valid: { layout-valid layout ≡ true },
+    ghost valid: { layout_valid layout ≡ true },
 }

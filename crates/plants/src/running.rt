@@ -1,10 +1,10 @@
 // The task that runs on a resource.
 ghost use Rattle.std.specs.Prelude.{◌≡◌, ◌<◌, ◌≤◌, true};
-ghost use Rattle.plants.specs.Limits.{most-tasks, most-resources};
+ghost use Rattle.plants.specs.Limits.{most_tasks, most_resources};
 ghost use Rattle.plants.specs.Below.{Finds};
-ghost use Rattle.plants.specs.Layouts.{task-at, valid as layout-valid};
+ghost use Rattle.plants.specs.Layouts.{task_at, valid as layout_valid};
 ghost use Rattle.plants.specs.Tick.{runs_on};
-ghost use Rattle.plants.specs.Rules.{claiming-state, Names-running};
+ghost use Rattle.plants.specs.Rules.{claiming_state, NamesRunning};
 
 use crate::layout::Layout;
 use crate::plant::Plant;
@@ -20,7 +20,7 @@ fn runs_on<P: Policy>(
     resource: u32,
     i: usize,
 ) -> bool
-    requires { (i < most-tasks) × ((layout.now.count ≤ most-tasks) × ((task-at layout.now i).resource < most-resources)) }
+    requires { (i < most_tasks) × ((layout.now.count ≤ most_tasks) × ((task_at layout.now i).resource < most_resources)) }
     ensures { result ≡ runs_on (order policy.now) layout.now state.now.records resource i }
 {
     layout.tasks[i].resource == resource && runs(policy, layout, state, i)
@@ -33,7 +33,7 @@ fn first_running<P: Policy>(
     state: &PlantState,
     resource: u32,
 ) -> Option<usize>
-    requires { layout-valid layout.now ≡ true }
+    requires { layout_valid layout.now ≡ true }
     ensures { Finds (runs_on (order policy.now) layout.now state.now.records resource) layout.now.count result }
 {
     for i in 0..layout.count {
@@ -54,7 +54,7 @@ impl<P: Policy> Plant<P> {
 
     // The task that runs on a resource in the tick by a choice: the one such ready task, and none where no task on it is ready.
     pub fn running(&self, state: &PlantState, choice: u32, resource: u32) -> Option<usize>
-        ensures { Names-running (order self.now.policy) self.now.layout (claiming-state self.now.layout choice state.now) resource result }
+        ensures { NamesRunning (order self.now.policy) self.now.layout (claiming_state self.now.layout choice state.now) resource result }
     {
         let claims = claiming(&self.layout, *state, choice);
         first_running(&self.policy, &self.layout, &claims, resource)

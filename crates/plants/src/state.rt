@@ -1,7 +1,7 @@
 // A plant's state: a record for each of the tasks that a plant can have.
 ghost use Rattle.std.specs.Prelude.{◌≡◌, ◌<◌, slice_set};
-ghost use Rattle.plants.specs.Limits.{most-tasks};
-ghost use Rattle.plants.specs.Records.{is-done, is_held, is-ready, phase-number, released, readied, grown-by, finished, at, Low};
+ghost use Rattle.plants.specs.Limits.{most_tasks};
+ghost use Rattle.plants.specs.Records.{is_done, is_held, is_ready, phase_number, released, readied, grown_by, finished, at, Low};
 
 use crate::layout::MOST_TASKS;
 
@@ -20,7 +20,7 @@ pub enum Phase {
 impl Phase {
     // Before is 0, done 1, held 2 and ready 3.
     pub fn number(self) -> u32
-        ensures { result ≡ phase-number self }
+        ensures { result ≡ phase_number self }
     {
         match self {
             Phase::Before => 0,
@@ -31,7 +31,7 @@ impl Phase {
     }
 
     pub(crate) fn is_done(self) -> bool
-        ensures { result ≡ is-done self }
+        ensures { result ≡ is_done self }
     {
         match self {
             Phase::Done => true,
@@ -49,7 +49,7 @@ impl Phase {
     }
 
     pub(crate) fn is_ready(self) -> bool
-        ensures { result ≡ is-ready self }
+        ensures { result ≡ is_ready self }
     {
         match self {
             Phase::Ready => true,
@@ -77,7 +77,7 @@ pub struct PlantState {
 // Each call changes the record of task i and no other.
 impl PlantState {
     pub(crate) fn release(&mut self, i: usize)
-        requires { i < most-tasks }
+        requires { i < most_tasks }
         ensures { self.new.records ≡ slice_set self.old.records i released }
     {
         self.records[i] = Record {
@@ -89,7 +89,7 @@ impl PlantState {
     }
 
     pub(crate) fn ready(&mut self, i: usize)
-        requires { i < most-tasks }
+        requires { i < most_tasks }
         ensures { self.new.records ≡ slice_set self.old.records i (readied (at self.old.records i)) }
     {
         self.records[i].phase = Phase::Ready;
@@ -97,8 +97,8 @@ impl PlantState {
 
     // One tick passes for a task that runs or does not.
     pub(crate) fn grow(&mut self, i: usize, runs: bool)
-        requires { (i < most-tasks) × (Low (at self.old.records i)) }
-        ensures { self.new.records ≡ slice_set self.old.records i (grown-by runs (at self.old.records i)) }
+        requires { (i < most_tasks) × (Low (at self.old.records i)) }
+        ensures { self.new.records ≡ slice_set self.old.records i (grown_by runs (at self.old.records i)) }
     {
         let mut record = self.records[i];
         record.since += 1;
@@ -112,7 +112,7 @@ impl PlantState {
     }
 
     pub(crate) fn finish(&mut self, i: usize)
-        requires { i < most-tasks }
+        requires { i < most_tasks }
         ensures { self.new.records ≡ slice_set self.old.records i (finished (at self.old.records i)) }
     {
         let since = self.records[i].since;

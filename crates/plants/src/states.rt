@@ -1,15 +1,15 @@
 // Which states fit a plant, which are bad, and which are the same.
 ghost use Rattle.std.specs.Prelude.{◌≡◌, ◌<◌, ◌≤◌, length};
-ghost use Rattle.plants.specs.Limits.{most-tasks};
-ghost use Rattle.plants.specs.Records.{first-state, same-record, same-records};
-ghost use Rattle.plants.specs.Tick.{fits-task, is-blank, fits-at, state-fits, is-late, state-bad};
+ghost use Rattle.plants.specs.Limits.{most_tasks};
+ghost use Rattle.plants.specs.Records.{first_state, same_record, same_records};
+ghost use Rattle.plants.specs.Tick.{fits_task, is_blank, fits_at, state_fits, is_late, state_bad};
 
 use crate::layout::{Layout, MOST_TASKS, Task};
 use crate::state::{Phase, PlantState, Record};
 
 // Every record is four zeros.
 pub(crate) fn first() -> PlantState
-    ensures { result ≡ first-state }
+    ensures { result ≡ first_state }
 {
     let blank = Record {
         phase: Phase::Before,
@@ -23,7 +23,7 @@ pub(crate) fn first() -> PlantState
 }
 
 fn fits_task(task: &Task, r: &Record) -> bool
-    ensures { result ≡ fits-task task.now r.now }
+    ensures { result ≡ fits_task task.now r.now }
 {
     let idle = r.run == 0 && r.waited == 0;
     match r.phase {
@@ -35,7 +35,7 @@ fn fits_task(task: &Task, r: &Record) -> bool
 }
 
 fn is_blank(r: &Record) -> bool
-    ensures { result ≡ is-blank r.now }
+    ensures { result ≡ is_blank r.now }
 {
     match r.phase {
         Phase::Before => r.since == 0 && r.run == 0 && r.waited == 0,
@@ -44,9 +44,9 @@ fn is_blank(r: &Record) -> bool
 }
 
 fn fits_at(layout: &Layout, state: &PlantState, i: usize) -> bool
-    requires { i < most-tasks }
-    ensures reply { result ≡ fits-at layout.now state.now.records i }
-    ensures long { length state.now.records ≡ most-tasks }
+    requires { i < most_tasks }
+    ensures reply { result ≡ fits_at layout.now state.now.records i }
+    ensures long { length state.now.records ≡ most_tasks }
 {
     let record = state.records[i];
     if i < layout.count {
@@ -57,7 +57,7 @@ fn fits_at(layout: &Layout, state: &PlantState, i: usize) -> bool
 }
 
 pub(crate) fn fits(layout: &Layout, state: &PlantState) -> bool
-    ensures { result ≡ state-fits layout.now state.now.records }
+    ensures { result ≡ state_fits layout.now state.now.records }
 {
     for i in 0..MOST_TASKS {
         if !fits_at(layout, state, i) {
@@ -69,14 +69,14 @@ pub(crate) fn fits(layout: &Layout, state: &PlantState) -> bool
 
 // A held or ready task has come to its deadline.
 fn is_late(task: &Task, r: &Record) -> bool
-    ensures { result ≡ is-late task.now r.now }
+    ensures { result ≡ is_late task.now r.now }
 {
     (r.phase.is_held() || r.phase.is_ready()) && r.since == task.deadline
 }
 
 pub(crate) fn is_bad(layout: &Layout, state: &PlantState) -> bool
-    requires { layout.now.count ≤ most-tasks }
-    ensures { result ≡ state-bad layout.now state.now.records }
+    requires { layout.now.count ≤ most_tasks }
+    ensures { result ≡ state_bad layout.now state.now.records }
 {
     for i in 0..layout.count {
         if is_late(&layout.tasks[i], &state.records[i]) {
@@ -87,7 +87,7 @@ pub(crate) fn is_bad(layout: &Layout, state: &PlantState) -> bool
 }
 
 fn is_same(one: &Record, other: &Record) -> bool
-    ensures { result ≡ same-record one.now other.now }
+    ensures { result ≡ same_record one.now other.now }
 {
     one.phase.number() == other.phase.number()
         && one.since == other.since
@@ -97,7 +97,7 @@ fn is_same(one: &Record, other: &Record) -> bool
 
 // Stops at the first difference.
 pub(crate) fn are_same(one: &PlantState, other: &PlantState) -> bool
-    ensures { result ≡ same-records one.now.records other.now.records }
+    ensures { result ≡ same_records one.now.records other.now.records }
 {
     for i in 0..MOST_TASKS {
         if !is_same(&one.records[i], &other.records[i]) {

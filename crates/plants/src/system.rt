@@ -1,12 +1,12 @@
 // A plant is a system, under any policy.
 ghost use Rattle.std.specs.Prelude.{◌≡◌, Decides};
-ghost use Rattle.systems.specs.Lowest.{Lowest-from};
-ghost use Rattle.plants.specs.Meanings.{plant-meaning};
-ghost use Rattle.plants.specs.Replies.{Legal-by-rules, Next-by-rules};
+ghost use Rattle.systems.specs.Lowest.{LowestFrom};
+ghost use Rattle.plants.specs.Meanings.{plant_meaning};
+ghost use Rattle.plants.specs.Replies.{LegalByRules, NextByRules};
 ghost use Rattle.plants.specs.Rules.{Fits, Bad};
-ghost use Rattle.plants.specs.Tick.{state-fits, state-bad, choice-legal, next-records};
-ghost use Rattle.plants.specs.Entered.{valid-parts};
-ghost use Rattle.plants.specs.PlantLaws.{plant-laws};
+ghost use Rattle.plants.specs.Tick.{state_fits, state_bad, choice_legal, next_records};
+ghost use Rattle.plants.specs.Entered.{valid_parts};
+ghost use Rattle.plants.specs.PlantLaws.{plant_laws};
 
 use crate::plant::Plant;
 use crate::state::PlantState;
@@ -17,9 +17,9 @@ use systems::system::System;
 impl<P: Policy> System for Plant<P> {
     type State = PlantState;
 
-    ghost meaning = { λ p. plant-meaning (P.Policy.order p.policy) p.layout };
+    ghost meaning = { λ p. plant_meaning (P.Policy.order p.policy) p.layout };
 
-    ghost lawful = { λ x. plant-laws (P.Policy.order x.policy) x.layout (valid-parts x.layout x.valid) };
+    ghost lawful = { λ x. plant_laws (P.Policy.order x.policy) x.layout (valid_parts x.layout x.valid) };
 
     fn first(&self) -> PlantState {
         states::first()
@@ -30,35 +30,35 @@ impl<P: Policy> System for Plant<P> {
     }
 
     fn fits(&self, state: &PlantState) -> bool
-        ensures reply { result ≡ state-fits self.now.layout state.now.records }
+        ensures reply { result ≡ state_fits self.now.layout state.now.records }
         ensures rules { Decides result (Fits self.now.layout state.now) }
     {
         states::fits(&self.layout, state)
     }
 
     fn is_bad(&self, state: &PlantState) -> bool
-        ensures reply { result ≡ state-bad self.now.layout state.now.records }
+        ensures reply { result ≡ state_bad self.now.layout state.now.records }
         ensures rules { Decides result (Bad self.now.layout state.now) }
     {
         states::is_bad(&self.layout, state)
     }
 
     fn is_legal(&self, state: &PlantState, choice: u32) -> bool
-        ensures reply { result ≡ choice-legal (P.Policy.order self.now.policy) self.now.layout choice state.now.records }
-        ensures rules { Legal-by-rules (P.Policy.order self.now.policy) self.now.layout choice state.now result }
+        ensures reply { result ≡ choice_legal (P.Policy.order self.now.policy) self.now.layout choice state.now.records }
+        ensures rules { LegalByRules (P.Policy.order self.now.policy) self.now.layout choice state.now result }
     {
         tick::is_legal(&self.policy, &self.layout, state, choice)
     }
 
     fn lowest_legal(&self, state: &PlantState, start: u32) -> Option<u32>
-        ensures { Lowest-from (λ c. choice-legal (P.Policy.order self.now.policy) self.now.layout c state.now.records) start result }
+        ensures { LowestFrom (λ c. choice_legal (P.Policy.order self.now.policy) self.now.layout c state.now.records) start result }
     {
         candidates::lowest_legal(&self.policy, &self.layout, state, start)
     }
 
     fn next(&self, state: &PlantState, choice: u32) -> PlantState
-        ensures reply { result.records ≡ next-records (P.Policy.order self.now.policy) self.now.layout choice state.now.records }
-        ensures rules { Next-by-rules (P.Policy.order self.now.policy) self.now.layout choice state.now result }
+        ensures reply { result.records ≡ next_records (P.Policy.order self.now.policy) self.now.layout choice state.now.records }
+        ensures rules { NextByRules (P.Policy.order self.now.policy) self.now.layout choice state.now result }
     {
         tick::next(&self.policy, &self.layout, *state, choice)
     }

@@ -1,10 +1,10 @@
 // One tick, rule by rule, under any policy.
 ghost use Rattle.std.specs.Prelude.{◌≡◌, ℕ, ◌+◌, ◌^◌, ◌<◌, ◌≤◌, true};
-ghost use Rattle.plants.specs.Limits.{most-tasks, most-resources};
-ghost use Rattle.plants.specs.Below.{all-below};
-ghost use Rattle.plants.specs.Layouts.{task-at, valid as layout-valid};
+ghost use Rattle.plants.specs.Limits.{most_tasks, most_resources};
+ghost use Rattle.plants.specs.Below.{all_below};
+ghost use Rattle.plants.specs.Layouts.{task_at, valid as layout_valid};
 ghost use Rattle.plants.specs.Records.{at, Low};
-ghost use Rattle.plants.specs.Tick.{release-in, release-obeys, after-releases, met_at, all-met, comes-ready, after-readying, claim-of, rivals, goes_before, ahead_of, task-runs, after-growth, finish-in, finish-obeys, after-finishes, claiming, choice-legal, next-records};
+ghost use Rattle.plants.specs.Tick.{release_in, release_obeys, after_releases, met_at, all_met, comes_ready, after_readying, claim_of, rivals, goes_before, ahead_of, task_runs, after_growth, finish_in, finish_obeys, after_finishes, claiming, choice_legal, next_records};
 
 use crate::bits::has_bit;
 use crate::layout::{Layout, MOST_TASKS, Task};
@@ -14,7 +14,7 @@ use policies::policy::{Claim, Policy};
 
 // How many choices there are: a release bit and a finish bit for each task.
 pub(crate) fn choices(layout: &Layout) -> u32
-    requires { layout.now.count ≤ most-tasks }
+    requires { layout.now.count ≤ most_tasks }
     ensures { result ≡ 4 ^ layout.now.count }
 {
     4u32.pow(layout.count as u32)
@@ -22,7 +22,7 @@ pub(crate) fn choices(layout: &Layout) -> u32
 
 // Rule 1: whether a task may be released, or need not be.
 pub(crate) fn may_release(task: &Task, r: &Record, released: bool) -> bool
-    ensures { result ≡ release-in task.now r.now.phase r.now.since released }
+    ensures { result ≡ release_in task.now r.now.phase r.now.since released }
 {
     match r.phase {
         Phase::Before => released == (r.since == task.offset),
@@ -39,16 +39,16 @@ pub(crate) fn may_release(task: &Task, r: &Record, released: bool) -> bool
 
 // Whether the release bit of task i obeys.
 fn release_obeys(layout: &Layout, state: &PlantState, choice: u32, i: usize) -> bool
-    requires { i < most-tasks }
-    ensures { result ≡ release-obeys layout.now choice state.now.records i }
+    requires { i < most_tasks }
+    ensures { result ≡ release_obeys layout.now choice state.now.records i }
 {
     may_release(&layout.tasks[i], &state.records[i], has_bit(choice, i))
 }
 
 // Whether every release bit obeys.
 fn releases_obey(layout: &Layout, state: &PlantState, choice: u32) -> bool
-    requires { layout.now.count ≤ most-tasks }
-    ensures { result ≡ all-below (release-obeys layout.now choice state.now.records) layout.now.count }
+    requires { layout.now.count ≤ most_tasks }
+    ensures { result ≡ all_below (release_obeys layout.now choice state.now.records) layout.now.count }
 {
     for i in 0..layout.count {
         if !release_obeys(layout, state, choice, i) {
@@ -59,8 +59,8 @@ fn releases_obey(layout: &Layout, state: &PlantState, choice: u32) -> bool
 }
 
 fn after_releases(layout: &Layout, state: PlantState, choice: u32) -> PlantState
-    requires { layout.now.count ≤ most-tasks }
-    ensures { result.records ≡ after-releases layout.now choice state.records }
+    requires { layout.now.count ≤ most_tasks }
+    ensures { result.records ≡ after_releases layout.now choice state.records }
 {
     let mut out = state;
     for i in 0..layout.count {
@@ -73,7 +73,7 @@ fn after_releases(layout: &Layout, state: PlantState, choice: u32) -> PlantState
 
 // Whether task j is done, if it is needed.
 fn is_met(needs: u32, state: &PlantState, j: usize) -> bool
-    requires { j < most-tasks }
+    requires { j < most_tasks }
     ensures { result ≡ met_at needs state.now.records j }
 {
     !has_bit(needs, j) || state.records[j].phase.is_done()
@@ -81,7 +81,7 @@ fn is_met(needs: u32, state: &PlantState, j: usize) -> bool
 
 // Whether every needed task is done.
 fn all_met(needs: u32, state: &PlantState) -> bool
-    ensures { result ≡ all-met needs state.now.records }
+    ensures { result ≡ all_met needs state.now.records }
 {
     for j in 0..MOST_TASKS {
         if !is_met(needs, state, j) {
@@ -93,15 +93,15 @@ fn all_met(needs: u32, state: &PlantState) -> bool
 
 // Rule 2: whether task i becomes ready.
 fn comes_ready(layout: &Layout, state: &PlantState, i: usize) -> bool
-    requires { i < most-tasks }
-    ensures { result ≡ comes-ready layout.now state.now.records i }
+    requires { i < most_tasks }
+    ensures { result ≡ comes_ready layout.now state.now.records i }
 {
     state.records[i].phase.is_held() && all_met(layout.tasks[i].needs, state)
 }
 
 fn after_readying(layout: &Layout, state: PlantState) -> PlantState
-    requires { layout.now.count ≤ most-tasks }
-    ensures { result.records ≡ after-readying layout.now state.records }
+    requires { layout.now.count ≤ most_tasks }
+    ensures { result.records ≡ after_readying layout.now state.records }
 {
     let mut out = state;
     for i in 0..layout.count {
@@ -114,15 +114,15 @@ fn after_readying(layout: &Layout, state: PlantState) -> PlantState
 
 // The state after rule 2, in which tasks claim their resources.
 pub(crate) fn claiming(layout: &Layout, state: PlantState, choice: u32) -> PlantState
-    requires { layout.now.count ≤ most-tasks }
+    requires { layout.now.count ≤ most_tasks }
     ensures { result.records ≡ claiming layout.now choice state.records }
 {
     after_readying(layout, after_releases(layout, state, choice))
 }
 
 fn claim_of(layout: &Layout, state: &PlantState, i: usize) -> Claim
-    requires { i < most-tasks }
-    ensures { result ≡ claim-of layout.now state.now.records i }
+    requires { i < most_tasks }
+    ensures { result ≡ claim_of layout.now state.now.records i }
 {
     let task = layout.tasks[i];
     let record = state.records[i];
@@ -137,7 +137,7 @@ fn claim_of(layout: &Layout, state: &PlantState, i: usize) -> Claim
 
 // Whether task j is another than i, ready and on the same resource.
 fn are_rivals(layout: &Layout, state: &PlantState, i: usize, j: usize) -> bool
-    requires { (i < most-tasks) × (j < most-tasks) }
+    requires { (i < most_tasks) × (j < most_tasks) }
     ensures { result ≡ rivals layout.now state.now.records i j }
 {
     i != j
@@ -153,7 +153,7 @@ fn goes_before<P: Policy>(
     i: usize,
     j: usize,
 ) -> bool
-    requires { (i < most-tasks) × ((j < most-tasks) × ((task-at layout.now i).resource < most-resources)) }
+    requires { (i < most_tasks) × ((j < most_tasks) × ((task_at layout.now i).resource < most_resources)) }
     ensures { result ≡ goes_before (order policy.now) layout.now state.now.records i j }
 {
     let resource = layout.resources[layout.tasks[i].resource as usize];
@@ -164,7 +164,7 @@ fn goes_before<P: Policy>(
 
 // Whether task i goes before task j, or j is no rival.
 fn is_ahead<P: Policy>(policy: &P, layout: &Layout, state: &PlantState, i: usize, j: usize) -> bool
-    requires { (i < most-tasks) × ((j < most-tasks) × ((task-at layout.now i).resource < most-resources)) }
+    requires { (i < most_tasks) × ((j < most_tasks) × ((task_at layout.now i).resource < most_resources)) }
     ensures { result ≡ ahead_of (order policy.now) layout.now state.now.records i j }
 {
     !are_rivals(layout, state, i, j) || goes_before(policy, layout, state, i, j)
@@ -172,8 +172,8 @@ fn is_ahead<P: Policy>(policy: &P, layout: &Layout, state: &PlantState, i: usize
 
 // Rule 3: whether task i runs.
 pub(crate) fn runs<P: Policy>(policy: &P, layout: &Layout, state: &PlantState, i: usize) -> bool
-    requires { (i < most-tasks) × ((layout.now.count ≤ most-tasks) × ((task-at layout.now i).resource < most-resources)) }
-    ensures { result ≡ task-runs (order policy.now) layout.now state.now.records i }
+    requires { (i < most_tasks) × ((layout.now.count ≤ most_tasks) × ((task_at layout.now i).resource < most_resources)) }
+    ensures { result ≡ task_runs (order policy.now) layout.now state.now.records i }
 {
     if !state.records[i].phase.is_ready() {
         return false;
@@ -188,9 +188,9 @@ pub(crate) fn runs<P: Policy>(policy: &P, layout: &Layout, state: &PlantState, i
 
 // Rule 4.
 fn after_growth<P: Policy>(policy: &P, layout: &Layout, state: PlantState) -> PlantState
-    requires valid { layout-valid layout.now ≡ true }
+    requires valid { layout_valid layout.now ≡ true }
     requires low { (k : ℕ) → k < layout.now.count → Low (at state.records k) }
-    ensures { result.records ≡ after-growth (order policy.now) layout.now state.records }
+    ensures { result.records ≡ after_growth (order policy.now) layout.now state.records }
 {
     let mut out = state;
     for i in 0..layout.count {
@@ -202,7 +202,7 @@ fn after_growth<P: Policy>(policy: &P, layout: &Layout, state: PlantState) -> Pl
 
 // Rule 5: whether a task that runs or does not may finish, or need not; `run` is what its run is after growth, if it runs.
 fn may_finish(task: &Task, running: bool, run: u32, finished: bool) -> bool
-    ensures { result ≡ finish-in task.now running run finished }
+    ensures { result ≡ finish_in task.now running run finished }
 {
     if finished {
         running && run >= task.best
@@ -219,11 +219,11 @@ fn finish_obeys<P: Policy>(
     choice: u32,
     i: usize,
 ) -> bool
-    requires few { layout.now.count ≤ most-tasks }
-    requires within { i < most-tasks }
-    requires placed { (task-at layout.now i).resource < most-resources }
+    requires few { layout.now.count ≤ most_tasks }
+    requires within { i < most_tasks }
+    requires placed { (task_at layout.now i).resource < most_resources }
     requires low { Low (at state.now.records i) }
-    ensures { result ≡ finish-obeys (order policy.now) layout.now choice state.now.records i }
+    ensures { result ≡ finish_obeys (order policy.now) layout.now choice state.now.records i }
 {
     let finished = has_bit(choice, layout.count + i);
     let run = state.records[i].run + 1;
@@ -246,9 +246,9 @@ pub(crate) fn finishes_obey<P: Policy>(
     state: &PlantState,
     choice: u32,
 ) -> bool
-    requires valid { layout-valid layout.now ≡ true }
+    requires valid { layout_valid layout.now ≡ true }
     requires low { (k : ℕ) → k < layout.now.count → Low (at state.now.records k) }
-    ensures { result ≡ all-below (finish-obeys (order policy.now) layout.now choice state.now.records) layout.now.count }
+    ensures { result ≡ all_below (finish_obeys (order policy.now) layout.now choice state.now.records) layout.now.count }
 {
     for i in 0..layout.count {
         if !finish_obeys(policy, layout, state, choice, i) {
@@ -259,8 +259,8 @@ pub(crate) fn finishes_obey<P: Policy>(
 }
 
 fn after_finishes(layout: &Layout, state: PlantState, choice: u32) -> PlantState
-    requires { layout.now.count ≤ most-tasks }
-    ensures { result.records ≡ after-finishes layout.now choice state.records }
+    requires { layout.now.count ≤ most_tasks }
+    ensures { result.records ≡ after_finishes layout.now choice state.records }
 {
     let mut out = state;
     for i in 0..layout.count {
@@ -279,8 +279,8 @@ pub(crate) fn is_legal<P: Policy>(
     state: &PlantState,
     choice: u32,
 ) -> bool
-    requires { layout-valid layout.now ≡ true }
-    ensures { result ≡ choice-legal (order policy.now) layout.now choice state.now.records }
+    requires { layout_valid layout.now ≡ true }
+    ensures { result ≡ choice_legal (order policy.now) layout.now choice state.now.records }
 {
     if choice >= choices(layout) || !releases_obey(layout, state, choice) {
         return false;
@@ -297,8 +297,8 @@ pub(crate) fn next<P: Policy>(
     state: PlantState,
     choice: u32,
 ) -> PlantState
-    requires { layout-valid layout.now ≡ true }
-    ensures { result.records ≡ next-records (order policy.now) layout.now choice state.records }
+    requires { layout_valid layout.now ≡ true }
+    ensures { result.records ≡ next_records (order policy.now) layout.now choice state.records }
 {
     if !is_legal(policy, layout, &state, choice) {
         return state;

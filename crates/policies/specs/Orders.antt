@@ -7,16 +7,16 @@ abbrev pub ranks : ℕ → ℕ → ℕ → ℕ → Bool
 ranks one other mine theirs = cond (one == other) false (cond (mine == theirs) (nat_lt one other) (nat_lt theirs mine))
 
 -- FIFO
-abbrev pub longest-waited : Claim → Claim → Bool
-longest-waited a b = ranks a.task b.task a.waited b.waited
+abbrev pub longest_waited : Claim → Claim → Bool
+longest_waited a b = ranks a.task b.task a.waited b.waited
 
 -- fixed priority
-abbrev pub highest-priority : Claim → Claim → Bool
-highest-priority a b = ranks a.task b.task a.priority b.priority
+abbrev pub highest_priority : Claim → Claim → Bool
+highest_priority a b = ranks a.task b.task a.priority b.priority
 
 -- earliest deadline: here the smaller figure goes first
-abbrev pub least-left : Claim → Claim → Bool
-least-left a b = ranks a.task b.task b.left a.left
+abbrev pub least_left : Claim → Claim → Bool
+least_left a b = ranks a.task b.task b.left a.left
 
 -- a claim that has run goes before one that has not, and otherwise the order below decides
 abbrev pub begun_first : (Claim → Claim → Bool) → Claim → Claim → Bool
@@ -25,14 +25,14 @@ begun_first below a b =
     (cond (nat_lt 0 a.run) (cond (nat_lt 0 b.run) (below a b) true) (cond (nat_lt 0 b.run) false (below a b)))
 
 -- the policy numbers, of which any that is neither is read as FIFO's, 0
-abbrev pub fixed-priority : ℕ
-fixed-priority = 1
+abbrev pub fixed_priority : ℕ
+fixed_priority = 1
 
-abbrev pub earliest-deadline : ℕ
-earliest-deadline = 2
+abbrev pub earliest_deadline : ℕ
+earliest_deadline = 2
 
 abbrev pub numbered : ℕ → Claim → Claim → Bool
-numbered policy = cond (policy == fixed-priority) highest-priority (cond (policy == earliest-deadline) least-left longest-waited)
+numbered policy = cond (policy == fixed_priority) highest_priority (cond (policy == earliest_deadline) least_left longest_waited)
 
 -- the preempt number, of which any other is read as 0, not preemptive
 abbrev pub preemptive : ℕ

@@ -1,6 +1,6 @@
 // The priorities of the classes.
 ghost use Rattle.std.specs.Prelude.{◌≡◌, ◌<◌, slice_index};
-ghost use Rattle.policies.specs.Classes.{classes, priorities, priority-of, band, by-bands};
+ghost use Rattle.policies.specs.Classes.{classes, priorities, priority_of, band, by_bands};
 
 // How many classes there are; they are numbered from 0.
 pub const CLASSES: usize = 24;
@@ -21,8 +21,8 @@ fn listed(class: u32) -> u32
 
 // The priority of a class, and none for a number that is no class.
 pub fn priority(class: u32) -> Option<u32>
-    ensures listed { result ≡ priority-of class }
-    ensures banded { result ≡ by-bands class }
+    ensures listed { result ≡ priority_of class }
+    ensures banded { result ≡ by_bands class }
 {
     if (class as usize) < CLASSES {
         Some(listed(class))

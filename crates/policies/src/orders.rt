@@ -1,6 +1,6 @@
 // The orders of claims by one figure, and the layer that keeps a begun task running.
 ghost use Rattle.std.specs.Prelude.{◌≡◌};
-ghost use Rattle.policies.specs.Orders.{ranks, longest-waited, highest-priority, least-left, begun_first};
+ghost use Rattle.policies.specs.Orders.{ranks, longest_waited, highest_priority, least_left, begun_first};
 ghost use Rattle.std.proofs.Common.{rules};
 
 use crate::policy::{Claim, Policy};
@@ -23,7 +23,7 @@ fn ranks_first(one: u32, other: u32, mine: u32, theirs: u32) -> bool
 pub struct Fifo;
 
 impl Policy for Fifo {
-    ghost order = { λ _ _ _. longest-waited };
+    ghost order = { λ _ _ _. longest_waited };
 
     ghost lawful = { Prim.search rules };
 
@@ -37,7 +37,7 @@ impl Policy for Fifo {
 pub struct FixedPriority;
 
 impl Policy for FixedPriority {
-    ghost order = { λ _ _ _. highest-priority };
+    ghost order = { λ _ _ _. highest_priority };
 
     ghost lawful = { Prim.search rules };
 
@@ -51,7 +51,7 @@ impl Policy for FixedPriority {
 pub struct EarliestDeadline;
 
 impl Policy for EarliestDeadline {
-    ghost order = { λ _ _ _. least-left };
+    ghost order = { λ _ _ _. least_left };
 
     ghost lawful = { Prim.search rules };
 

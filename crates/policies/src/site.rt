@@ -1,7 +1,7 @@
 // The site's policy, which reads a resource's two numbers.
 ghost use Rattle.policies.specs.Orders.{numbered, site};
 ghost use Rattle.std.proofs.Common.{rules};
-ghost use Rattle.policies.specs.Lawfuls.{site-lawful};
+ghost use Rattle.policies.specs.Lawfuls.{site_lawful};
 
 use crate::orders::{EarliestDeadline, Fifo, FixedPriority, NonPreemptive};
 use crate::policy::{Claim, Policy};
@@ -43,7 +43,7 @@ pub struct SitePolicy;
 impl Policy for SitePolicy {
     ghost order = { λ _ policy preempt. site policy preempt };
 
-    ghost lawful = { λ p policy preempt. site-lawful policy preempt };
+    ghost lawful = { λ p policy preempt. site_lawful policy preempt };
 
     fn before(&self, policy: u32, preempt: u32, a: &Claim, b: &Claim) -> bool {
         match preempt {

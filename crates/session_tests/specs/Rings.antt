@@ -2,8 +2,8 @@
 use Rattle.std.specs.Prelude.{ℕ, ◌+◌, false, cond, ◌&&◌, nat_le, nat_lt}
 use Rattle.systems.specs.Systems.{Meaning}
 
-abbrev pub ring-meaning : ℕ → Meaning ℕ
-ring-meaning end = record {
+abbrev pub ring_meaning : ℕ → Meaning ℕ
+ring_meaning end = record {
   first = 0;
   count = 1;
   fits = λ x. nat_le x end;

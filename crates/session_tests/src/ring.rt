@@ -1,5 +1,5 @@
 // A system for the tests: states 0 to a last one, one choice, which leads round them.
-ghost use Rattle.session_tests.specs.Rings.{ring-meaning};
+ghost use Rattle.session_tests.specs.Rings.{ring_meaning};
 ghost use Rattle.std.proofs.Common.{rules};
 
 use systems::system::System;
@@ -12,7 +12,7 @@ pub struct Ring {
 impl System for Ring {
     type State = u32;
 
-    ghost meaning = { λ x. ring-meaning x.last };
+    ghost meaning = { λ x. ring_meaning x.last };
 
     ghost lawful = { Prim.search rules };
 

@@ -1,7 +1,7 @@
 -- What judging a list of choices comes to.
 use Rattle.std.specs.Prelude.{◌≡◌, ℕ, ◌+◌, ◌<◌, false, cond, List, [], ◌∷◌, length, take, slice_index}
 use Rattle.systems.specs.Systems.{Meaning, Run, last, BadRun}
-use Rattle.systems.specs.Outcomes.{answer-of}
+use Rattle.systems.specs.Outcomes.{answer_of}
 use Rattle.systems.specs.declared.outcome.Outcome.{Outcome}
 use Rattle.systems.specs.declared.outcome.Outcome.TheVariants.{Accepted, NotLegal, EndsNotBad}
 
@@ -10,17 +10,17 @@ abbrev pub ended : {S : Type 0} → Meaning S → S → ℕ → Outcome
 ended m x n = cond (m.bad x) (Accepted n) (EndsNotBad n)
 
 -- the choices from a state, the first of them at a position
-abbrev pub judged-from : {S : Type 0} → Meaning S → S → List ℕ → ℕ → Outcome
-judged-from m x [] i = ended m x i
-judged-from m x (c ∷ cs) i = cond (m.legal x c) (judged-from m (m.next x c) cs (i + 1)) (NotLegal i)
+abbrev pub judged_from : {S : Type 0} → Meaning S → S → List ℕ → ℕ → Outcome
+judged_from m x [] i = ended m x i
+judged_from m x (c ∷ cs) i = cond (m.legal x c) (judged_from m (m.next x c) cs (i + 1)) (NotLegal i)
 
 abbrev pub judged : {S : Type 0} → Meaning S → List ℕ → Outcome
-judged m cs = judged-from m m.first cs 0
+judged m cs = judged_from m m.first cs 0
 
 -- an answer accepts the choices exactly when they are a run whose last state is bad, and says why it does not:
 -- a run that ends in another state, or the position of the first choice that is not legal
 pub record Judges {S : Type 0} (m : Meaning S) (cs : List ℕ) (r : ℕ × ℕ) : Type 0 where
-  pub accepted-bad : r.0 ≡ 0 → BadRun m cs
-  pub bad-accepted : BadRun m cs → r ≡ (0, length cs)
-  pub ends-good : Run m cs → m.bad (last m cs) ≡ false → r ≡ answer-of (EndsNotBad (length cs))
-  pub stops_at : (k : ℕ) → k < length cs → Run m (take k cs) → m.legal (last m (take k cs)) (slice_index cs k) ≡ false → r ≡ answer-of (NotLegal k)
+  pub accepted_bad : r.0 ≡ 0 → BadRun m cs
+  pub bad_accepted : BadRun m cs → r ≡ (0, length cs)
+  pub ends_good : Run m cs → m.bad (last m cs) ≡ false → r ≡ answer_of (EndsNotBad (length cs))
+  pub stops_at : (k : ℕ) → k < length cs → Run m (take k cs) → m.legal (last m (take k cs)) (slice_index cs k) ≡ false → r ≡ answer_of (NotLegal k)

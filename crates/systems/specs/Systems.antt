@@ -13,14 +13,14 @@ pub record Meaning (S : Type 0) : Type 0 where
 
 pub record Lawful {S : Type 0} (m : Meaning S) : Type 0 where
   -- two states are the same exactly when they are equal
-  pub same-equal : (x y : S) → m.same x y ≡ true → x ≡ y
-  pub equal-same : (x : S) → m.same x x ≡ true
+  pub same_equal : (x y : S) → m.same x y ≡ true → x ≡ y
+  pub equal_same : (x : S) → m.same x x ≡ true
   -- the first state fits
   pub first_fits : m.fits m.first ≡ true
   -- a legal choice is below the count, at a state that fits and is not bad
-  pub legal-below : (x : S) (c : ℕ) → m.legal x c ≡ true → c < m.count
-  pub legal-fits : (x : S) (c : ℕ) → m.legal x c ≡ true → m.fits x ≡ true
-  pub legal-good : (x : S) (c : ℕ) → m.legal x c ≡ true → m.bad x ≡ false
+  pub legal_below : (x : S) (c : ℕ) → m.legal x c ≡ true → c < m.count
+  pub legal_fits : (x : S) (c : ℕ) → m.legal x c ≡ true → m.fits x ≡ true
+  pub legal_good : (x : S) (c : ℕ) → m.legal x c ≡ true → m.bad x ≡ false
   -- the next state by a legal choice fits
   pub next_fits : (x : S) (c : ℕ) → m.legal x c ≡ true → m.fits (m.next x c) ≡ true
   -- a state that fits and is not bad has a legal choice
@@ -52,5 +52,5 @@ BadRun m cs = Run m cs × (m.bad (last m cs) ≡ true)
 
 -- no run, of any length, ends in a bad state, and every run can go on
 pub record Safe {S : Type 0} (m : Meaning S) : Type 0 where
-  pub never-bad : (cs : List ℕ) → Run m cs → m.bad (last m cs) ≡ false
+  pub never_bad : (cs : List ℕ) → Run m cs → m.bad (last m cs) ≡ false
   pub goes_on : (cs : List ℕ) → Run m cs → (c : ℕ) × (m.legal (last m cs) c ≡ true)

@@ -1,6 +1,6 @@
 // Judging a list of choices: is it a run whose last state is bad?
 ghost use Rattle.std.specs.Prelude.{◌≡◌};
-ghost use Rattle.systems.specs.Outcomes.{answer-of};
+ghost use Rattle.systems.specs.Outcomes.{answer_of};
 ghost use Rattle.systems.specs.Judging.{judged, ended, Judges};
 
 use crate::outcome::Outcome;
@@ -33,7 +33,7 @@ fn outcome<Y: System>(system: &Y, choices: &[u32]) -> Outcome
 
 // Accepts the choices, with their number, exactly when they are a run whose last state is bad.
 pub fn judge<Y: System>(system: &Y, choices: &[u32]) -> (u32, usize)
-    ensures answer { result ≡ answer-of (judged (meaning system.now) choices.now) }
+    ensures answer { result ≡ answer_of (judged (meaning system.now) choices.now) }
     ensures exact { Judges (meaning system.now) choices.now result }
 {
     outcome(system, choices).answer()

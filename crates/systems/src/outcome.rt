@@ -1,6 +1,6 @@
 // What a call can come to, and the pair of plain numbers that answers it.
 ghost use Rattle.std.specs.Prelude.{◌≡◌};
-ghost use Rattle.systems.specs.Outcomes.{answer-of, accepts};
+ghost use Rattle.systems.specs.Outcomes.{answer_of, accepts};
 
 // The closed list of outcomes. Choices, fields, places and positions are those that docs/RULES.md names.
 #[derive(Clone, Copy)]
@@ -60,7 +60,7 @@ impl Outcome {
 
     // The outcome's number, and its value or 0.
     pub fn answer(self) -> (u32, usize)
-        ensures { result ≡ answer-of self }
+        ensures { result ≡ answer_of self }
     {
         match self {
             Outcome::Accepted(value) => (0, value),

@@ -2,7 +2,7 @@
 // A set of cases is a folder with a file INDEX.tsv, whose first column names the cases, and NAME.in and NAME.log of
 // each.
 ghost use Rattle.std.specs.Prelude.{◌≡◌, IfOk, Decides, MatchOption};
-ghost use Rattle.logs.specs.Log.{log-of};
+ghost use Rattle.logs.specs.Log.{log_of};
 
 use anyhow::anyhow;
 use logs::log::log;
@@ -61,7 +61,7 @@ fn same(one: &[u8], other: &[u8]) -> bool
 
 // The log of an input, where it is not the expected one. With none, the expected log is the one that the rules define.
 fn other_log(heap: Global, input: &[u8], expected: &[u8]) -> Result<Option<Vec<u8>>, AllocError>
-    ensures { IfOk result (λ other. MatchOption other (log-of input.now ≡ expected.now) (λ v. v.items ≡ log-of input.now)) }
+    ensures { IfOk result (λ other. MatchOption other (log_of input.now ≡ expected.now) (λ v. v.items ≡ log_of input.now)) }
 {
     let found = log(heap, input)?;
     if same(&found, expected) {

@@ -1,10 +1,10 @@
 // A chart's state as a line: its one number is the step.
 ghost use Rattle.std.specs.Prelude.{◌≡◌, length};
-ghost use Rattle.systems.specs.Outcomes.{answer-of};
+ghost use Rattle.systems.specs.Outcomes.{answer_of};
 ghost use Rattle.lines.specs.Writing.{writing, written};
 ghost use Rattle.lines.specs.declared.tag.Tag.TheVariants.{Offr};
-ghost use Rattle.charts.specs.Numbers.{step-numbers, step_of};
-ghost use Rattle.charts.specs.Numbered.{chart-numbered};
+ghost use Rattle.charts.specs.Numbers.{step_numbers, step_of};
+ghost use Rattle.charts.specs.Numbered.{chart_numbered};
 
 use super::Chart;
 use lines::loggable::Loggable;
@@ -13,8 +13,8 @@ use lines::write::write as write_line;
 
 // Writes a step as a line.
 fn write_step(step: u32, out: &mut [u8]) -> (u32, usize)
-    ensures answer { result ≡ answer-of (writing Offr (step-numbers step) (length out.old)) }
-    ensures after { out.new ≡ written Offr (step-numbers step) out.old }
+    ensures answer { result ≡ answer_of (writing Offr (step_numbers step) (length out.old)) }
+    ensures after { out.new ≡ written Offr (step_numbers step) out.old }
 {
     write_line(Tag::Offr, &[step], out)
 }
@@ -30,11 +30,11 @@ fn step_in(given: &[u32]) -> Option<u32>
 }
 
 impl Loggable for Chart {
-    ghost numbers = { λ _ step. step-numbers step };
+    ghost numbers = { λ _ step. step_numbers step };
 
     ghost restored = { λ _ ns. step_of ns };
 
-    ghost numbered = { λ x. chart-numbered x.entries x.few_steps };
+    ghost numbered = { λ x. chart_numbered x.entries x.few_steps };
 
     fn write(&self, state: &u32, out: &mut [u8]) -> (u32, usize) {
         write_step(*state, out)

@@ -1,5 +1,5 @@
 // A chart as a system: its states are its steps, and its choices its inputs.
-ghost use Rattle.charts.specs.Charts.{chart-meaning};
+ghost use Rattle.charts.specs.Charts.{chart_meaning};
 ghost use Rattle.std.proofs.Common.{rules, arith};
 
 use super::Chart;
@@ -8,7 +8,7 @@ use systems::system::System;
 impl System for Chart {
     type State = u32;
 
-    ghost meaning = { λ x. chart-meaning x.entries };
+    ghost meaning = { λ x. chart_meaning x.entries };
 
     ghost lawful = { first_of (Prim.search rules, Prim.grind (arith, Self.row.coded.inj)) };
 

@@ -1,8 +1,8 @@
 // The calls by which a chart is entered, and fixing it.
 ghost use Rattle.std.specs.Prelude.{◌≡◌};
-ghost use Rattle.systems.specs.Outcomes.{answer-of};
-ghost use Rattle.charts.specs.Entries.{begun, add_step as step-entry, with-step, add-input as input-entry, with-input, set-lead as lead-entry, with_lead, Leads-to-itself};
-ghost use Rattle.charts.specs.Leads.{Follows-leads};
+ghost use Rattle.systems.specs.Outcomes.{answer_of};
+ghost use Rattle.charts.specs.Entries.{begun, add_step as step_entry, with_step, add_input as input_entry, with_input, set_lead as lead_entry, with_lead, LeadsToItself};
+ghost use Rattle.charts.specs.Leads.{FollowsLeads};
 
 use super::DraftChart;
 use crate::chart::Chart;
@@ -20,8 +20,8 @@ impl DraftChart {
 
     // Enters a step, forbidden (1) or not (0); the value is its number. Every input leads from it to itself.
     pub fn add_step(&mut self, forbidden: u32) -> (u32, usize)
-        ensures answer { result ≡ answer-of (step-entry self.old.entries forbidden) }
-        ensures after { self.new.entries ≡ with-step self.old.entries forbidden }
+        ensures answer { result ≡ answer_of (step_entry self.old.entries forbidden) }
+        ensures after { self.new.entries ≡ with_step self.old.entries forbidden }
     {
         let (outcome, entries) = self.entries.with_step(forbidden);
         self.entries = entries;
@@ -30,9 +30,9 @@ impl DraftChart {
 
     // Enters an input; the value is its number. It leads from every step to itself.
     pub fn add_input(&mut self) -> (u32, usize)
-        ensures answer { result ≡ answer-of (input-entry self.old.entries) }
-        ensures after { self.new.entries ≡ with-input self.old.entries }
-        ensures itself { Leads-to-itself self.old.entries self.new.entries }
+        ensures answer { result ≡ answer_of (input_entry self.old.entries) }
+        ensures after { self.new.entries ≡ with_input self.old.entries }
+        ensures itself { LeadsToItself self.old.entries self.new.entries }
     {
         let (outcome, entries) = self.entries.with_input();
         self.entries = entries;
@@ -41,7 +41,7 @@ impl DraftChart {
 
     // Sets where an input leads from a step; the value is 0.
     pub fn set_lead(&mut self, step: u32, input: u32, next: u32) -> (u32, usize)
-        ensures answer { result ≡ answer-of (lead-entry self.old.entries step input next) }
+        ensures answer { result ≡ answer_of (lead_entry self.old.entries step input next) }
         ensures after { self.new.entries ≡ with_lead self.old.entries step input next }
     {
         let (outcome, entries) = self.entries.with_lead(step, input, next);
@@ -59,7 +59,7 @@ impl DraftChart {
     // Fixes the chart, which holds exactly the draft's entries and follows their leads; the draft is then gone.
     pub fn fix(self) -> Chart
         ensures entries { result.entries ≡ self.entries }
-        ensures leads { Follows-leads result.entries }
+        ensures leads { FollowsLeads result.entries }
     {
         fixed(self)
     }

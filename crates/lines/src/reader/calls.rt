@@ -1,9 +1,9 @@
 // The reader's calls.
 ghost use Rattle.std.specs.Prelude.{◌≡◌, ◌+◌, ◌≤◌, length, drop, if◌then◌else◌, Decides};
-ghost use Rattle.systems.specs.Outcomes.{answer-of};
+ghost use Rattle.systems.specs.Outcomes.{answer_of};
 ghost use Rattle.systems.specs.declared.outcome.Outcome.TheVariants.{Accepted};
 ghost use Rattle.lines.specs.Spelling.{OneSpelling};
-ghost use Rattle.lines.specs.Reading.{said, input_of, Reads, piece, past-piece, Hears, LineExact};
+ghost use Rattle.lines.specs.Reading.{said, input_of, Reads, piece, past_piece, Hears, LineExact};
 
 use super::{Guard, LineReader};
 use crate::form::{pass_numbers, pass_tag};
@@ -57,8 +57,8 @@ impl<'a> LineReader<'a> {
     // Passes the next line feed, or goes to the end, and answers the new place.
     pub fn skip(&mut self) -> (u32, usize)
         ensures input { input_of self.new ≡ input_of self.old }
-        ensures place { self.new.place ≡ past-piece self.old }
-        ensures answer { result ≡ answer-of (Accepted self.new.place) }
+        ensures place { self.new.place ≡ past_piece self.old }
+        ensures answer { result ≡ answer_of (Accepted self.new.place) }
     {
         self.place = past_feed(self.input, self.place);
         Outcome::Accepted(self.place).answer()
@@ -74,7 +74,7 @@ impl<'a> LineReader<'a> {
     // Passes the next line feed, or goes to the end, unless a line was accepted.
     fn skip_unless(&mut self, accepted: bool)
         ensures input { input_of self.new ≡ input_of self.old }
-        ensures place { self.new.place ≡ (if accepted then self.old.place else past-piece self.old) }
+        ensures place { self.new.place ≡ (if accepted then self.old.place else past_piece self.old) }
     {
         if !accepted {
             self.skip();

@@ -8,8 +8,8 @@ use Rattle.lines.specs.declared.tag.Tag.TheVariants.{Offr, Line}
 use Rattle.lines.proofs.loggable.decoded.Goals as goal
 
 -- what stands for bytes that are not a line has another tag
-unlike-none : (t : Tag) (ns : List ℕ) → t ≡ Offr → (t, ns) ≡ no_line → ⊥
-unlike-none t ns o n = let tags : Offr ≡ Line = sym o ∙ ap (λ (x : Tag × List ℕ). x.0) n in let z : ◌≡◌ {A = ℕ} 0 1 = cc in omega arith
+unlike_none : (t : Tag) (ns : List ℕ) → t ≡ Offr → (t, ns) ≡ no_line → ⊥
+unlike_none t ns o n = let tags : Offr ≡ Line = sym o ∙ ap (λ (x : Tag × List ℕ). x.0) n in let z : ◌≡◌ {A = ℕ} 0 1 = cc in omega arith
 
 pub returns : goal.returns
 returns g c =
@@ -28,6 +28,6 @@ returns g c =
           (λ (z : c.read.result.0.0 ≡ 0).
           let begins = subst (λ bs. Begins bs (said line).0 (said line).1) whole (reads.accepted z) in
           none (said line).1 (subst (λ u. Begins c.args.bytes.now u (said line).1) t begins))
-          (λ (n : c.read.result.0.0 ≢ 0). unlike-none (said line).0 (said line).1 t (reads.refused n).1)
+          (λ (n : c.read.result.0.0 ≢ 0). unlike_none (said line).0 (said line).1 t (reads.refused n).1)
           (cases_eq c.read.result.0.0 0));
     }

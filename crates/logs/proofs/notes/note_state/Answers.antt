@@ -3,7 +3,7 @@ use Rattle.std.proofs.Common.{ℕ, ◌++◌, replicate, vec_items, ap, ◌∙◌
 use Rattle.std.proofs.lemmas.List.{length-replicate}
 use Rattle.lines.specs.Spelling.{longest}
 use Rattle.lines.specs.declared.tag.Tag.TheVariants.{Offr}
-use Rattle.logs.proofs.Noted.{noted-fits, noted-front}
+use Rattle.logs.proofs.Noted.{noted_fits, noted_front}
 use Rattle.logs.proofs.notes.note_state.Goals as goal
 
 pub append-requires : goal.append-requires
@@ -11,12 +11,12 @@ append-requires g c =
     let law = g.met.Y.Loggable.numbered c.args.system.now in
     let x = c.args.state.now in
     let ns = g.Y.Loggable.numbers c.args.system.now x in
-    omega (arith, noted-fits Offr ns (replicate {A = ℕ} longest 0) c.write-count.new.out c.write-count.result c.write-count.ensures.answer (law.small-numbers x c.requires) (law.few x c.requires) (length-replicate {A = ℕ} longest 0))
+    omega (arith, noted_fits Offr ns (replicate {A = ℕ} longest 0) c.write-count.new.out c.write-count.result c.write-count.ensures.answer (law.small_numbers x c.requires) (law.few x c.requires) (length-replicate {A = ℕ} longest 0))
 
 pub returns : goal.returns
 returns g c =
     let law = g.met.Y.Loggable.numbered c.args.system.now in
     let x = c.args.state.now in
     let ns = g.Y.Loggable.numbers c.args.system.now x in
-    let front = noted-front Offr ns (replicate {A = ℕ} longest 0) c.write-count.new.out c.write-count.result c.write-count.ensures.answer (law.small-numbers x c.requires) (law.few x c.requires) (length-replicate {A = ℕ} longest 0) c.write-count.ensures.after in
-    c.in-ok-append.ensures ∙ ap (λ y. vec_items c.args.out.now ++ y) front
+    let front = noted_front Offr ns (replicate {A = ℕ} longest 0) c.write-count.new.out c.write-count.result c.write-count.ensures.answer (law.small_numbers x c.requires) (law.few x c.requires) (length-replicate {A = ℕ} longest 0) c.write-count.ensures.after in
+    c.in_ok-append.ensures ∙ ap (λ y. vec_items c.args.out.now ++ y) front

@@ -4,19 +4,19 @@ use Rattle.std.proofs.lemmas.List.{append-nil}
 use Rattle.sessions.specs.Views.{table_of}
 use Rattle.lines.specs.Reading.{said}
 use Rattle.logs.specs.Answers.{spelled}
-use Rattle.logs.specs.Pieces.{lines-ahead}
-use Rattle.logs.specs.Serving.{logged, says-in, goes_in, served}
-use Rattle.logs.proofs.Ahead.{ahead_more, ahead-less, ahead_none, heard-few}
-use Rattle.logs.proofs.Served.{spelled-more}
+use Rattle.logs.specs.Pieces.{lines_ahead}
+use Rattle.logs.specs.Serving.{logged, says_in, goes_in, served}
+use Rattle.logs.proofs.Ahead.{ahead_more, ahead_less, ahead_none, heard_few}
+use Rattle.logs.proofs.Served.{spelled_more}
 use Rattle.logs.proofs.serving.serve.Goals as goal
 
 pub loop-reader-smaller : goal.loop-reader-smaller
 loop-reader-smaller g c =
-    ahead-less c.next-line-line.ensures.hears c.at-end.ensures.1 c.loop-reader-test.true
+    ahead_less c.next-line-line.ensures.hears c.at-end.ensures.1 c.loop-reader-test.true
 
-pub serve-line-requires : goal.serve-line-requires
-serve-line-requires g c =
-    record { same = c.loop-reader.invariant.0; past = c.loop-reader.invariant.1; choices = c.requires.choices; few = heard-few c.next-line-line.ensures.hears }
+pub serve_line-requires : goal.serve_line-requires
+serve_line-requires g c =
+    record { same = c.loop-reader.invariant.0; past = c.loop-reader.invariant.1; choices = c.requires.choices; few = heard_few c.next-line-line.ensures.hears }
 
 pub loop-reader-preserved : goal.loop-reader-preserved
 loop-reader-preserved g c =
@@ -28,8 +28,8 @@ loop-reader-preserved g c =
     let more = ahead_more c.next-line-line.ensures.hears c.at-end.ensures.1 c.loop-reader-test.true in (
       e.system,
       e.past,
-      ap (λ u. vec_items c.serve-line.new.out ++ spelled (served v u (lines-ahead after))) e.after
-          ∙ spelled-more (vec_items c.loop-reader.out) (vec_items c.serve-line.new.out) (says-in v t line.0 line.1) (served v (goes_in v t line.0 line.1) (lines-ahead after)) c.in-ok-serve-line.ensures.items
+      ap (λ u. vec_items c.serve-line.new.out ++ spelled (served v u (lines_ahead after))) e.after
+          ∙ spelled_more (vec_items c.loop-reader.out) (vec_items c.serve-line.new.out) (says_in v t line.0 line.1) (served v (goes_in v t line.0 line.1) (lines_ahead after)) c.in_ok-serve_line.ensures.items
           ∙ ap (λ ls. vec_items c.loop-reader.out ++ spelled (served v t ls)) (sym more)
           ∙ c.loop-reader.invariant.2,
     )

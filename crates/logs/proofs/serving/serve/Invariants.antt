@@ -1,19 +1,19 @@
 -- What is written so far, with the answers to the lines ahead, is the log of all of them.
 use Rattle.std.proofs.Common.{◌≡◌, ◌-◌, ◌++◌, length, vec_items}
-use Rattle.sessions.specs.Views.{system-of, table_of, Has-past}
+use Rattle.sessions.specs.Views.{system_of, table_of, HasPast}
 use Rattle.lines.specs.Reading.{input_of}
 use Rattle.logs.specs.Answers.{spelled}
-use Rattle.logs.specs.Pieces.{lines-ahead}
+use Rattle.logs.specs.Pieces.{lines_ahead}
 use Rattle.logs.specs.Serving.{logged, served}
 use Rattle.logs.proofs.serving.serve.Given as goal
 
 abbrev pub invariant-loop-reader : goal.invariant-loop-reader
 invariant-loop-reader g l =
     let v = logged g.Y.System g.Y.Loggable l.system in
-    (system-of g.Y.System.meaning l.session ≡ g.Y.System.meaning l.system)
-    × Has-past g.Y.System.meaning l.session
-    × (vec_items l.out ++ spelled (served v (table_of l.session) (lines-ahead l.reader))
-    ≡ vec_items l.initial.out ++ spelled (served v (table_of l.initial.session) (lines-ahead l.initial.reader)))
+    (system_of g.Y.System.meaning l.session ≡ g.Y.System.meaning l.system)
+    × HasPast g.Y.System.meaning l.session
+    × (vec_items l.out ++ spelled (served v (table_of l.session) (lines_ahead l.reader))
+    ≡ vec_items l.initial.out ++ spelled (served v (table_of l.initial.session) (lines_ahead l.initial.reader)))
 
 abbrev pub decreases-loop-reader : goal.decreases-loop-reader
 decreases-loop-reader g l = length (input_of l.reader) - l.reader.place

@@ -3,10 +3,10 @@ use Rattle.std.proofs.Common.{rules}
 use Rattle.plants.specs.Tick.{ahead_of}
 use Rattle.plants.proofs.tick.is_ahead.Goals as goal
 
-pub returns-then-not-are-rivals : goal.returns-then-not-are-rivals
+pub returns-then-not-are_rivals : goal.returns-then-not-are_rivals
 unfolding ahead_of
-returns-then-not-are-rivals g c = search rules
+returns-then-not-are_rivals g c = search rules
 
-pub returns-else-not-are-rivals : goal.returns-else-not-are-rivals
+pub returns-else-not-are_rivals : goal.returns-else-not-are_rivals
 unfolding ahead_of
-returns-else-not-are-rivals g c = search rules
+returns-else-not-are_rivals g c = search rules

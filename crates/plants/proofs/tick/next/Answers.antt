@@ -2,17 +2,17 @@
 use Rattle.std.proofs.Common.{sym}
 use mathlib.Core.Path.{subst⁻¹}
 use Rattle.plants.specs.Records.{at, Low}
-use Rattle.plants.specs.Entered.{valid-parts}
-use Rattle.plants.specs.Ticks.{legal-parts, low-claiming}
+use Rattle.plants.specs.Entered.{valid_parts}
+use Rattle.plants.specs.Ticks.{legal_parts, low_claiming}
 use Rattle.plants.proofs.tick.next.Goals as goal
 
-pub after-growth-requires : goal.after-growth-requires
-after-growth-requires g c =
+pub after_growth-requires : goal.after_growth-requires
+after_growth-requires g c =
     let l = c.args.layout.now in
-    let ok = legal-parts (g.P.Policy.order c.args.policy.now) l c.args.choice c.args.state.records (sym c.if-not-is-legal.ensures) in
+    let ok = legal_parts (g.P.Policy.order c.args.policy.now) l c.args.choice c.args.state.records (sym c.if-not-is_legal.ensures) in
     record {
       valid = c.requires;
       low = λ k lt.
           subst⁻¹ (λ rs. Low (at rs k)) c.claiming-claims.ensures
-          (low-claiming l (valid-parts l c.requires) c.args.choice c.args.state.records ok.fitting k lt);
+          (low_claiming l (valid_parts l c.requires) c.args.choice c.args.state.records ok.fitting k lt);
     }

@@ -1,6 +1,6 @@
 -- The plant holds the draft's entries, and its runs are the chains of its ticks.
-use Rattle.plants.proofs.Chained.{runs-chain}
-use Rattle.plants.specs.Entered.{valid-parts}
+use Rattle.plants.proofs.Chained.{runs_chain}
+use Rattle.plants.specs.Entered.{valid_parts}
 use Rattle.plants.proofs.draft.DraftPlant.fix.Goals as goal
 
 pub returns : goal.returns
@@ -9,5 +9,5 @@ returns g c =
     record {
       layout = c.fixed.ensures.layout;
       policy = c.fixed.ensures.policy;
-      runs = runs-chain (g.P.Policy.order p.policy) p.layout (valid-parts p.layout p.valid);
+      runs = runs_chain (g.P.Policy.order p.policy) p.layout (valid_parts p.layout p.valid);
     }

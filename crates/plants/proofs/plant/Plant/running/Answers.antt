@@ -2,13 +2,13 @@
 use Rattle.std.proofs.Common.{subst}
 use Rattle.plants.specs.Below.{Finds}
 use Rattle.plants.specs.Tick.{runs_on}
-use Rattle.plants.specs.Rules.{claiming-state}
-use Rattle.plants.proofs.OneRuns.{names-running}
+use Rattle.plants.specs.Rules.{claiming_state}
+use Rattle.plants.proofs.OneRuns.{names_running}
 use Rattle.plants.proofs.plant.Plant.running.Goals as goal
 
 pub returns : goal.returns
 returns g c =
     let p = c.args.self.now in
     let order = g.P.Policy.order p.policy in
-    names-running order (g.met.P.Policy.lawful p.policy) p.layout (claiming-state p.layout c.args.choice c.args.state.now) c.args.resource c.first-running.result
+    names_running order (g.met.P.Policy.lawful p.policy) p.layout (claiming_state p.layout c.args.choice c.args.state.now) c.args.resource c.first-running.result
     (subst (λ rs. Finds (runs_on order p.layout rs c.args.resource) p.layout.count c.first-running.result) c.claiming-claims.ensures c.first-running.ensures)

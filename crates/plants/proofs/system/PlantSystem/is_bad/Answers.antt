@@ -1,10 +1,10 @@
 -- The reply decides whether the state is bad by the rules.
 use Rattle.std.proofs.lemmas.Bool.Decides.{Decides-at}
-use Rattle.plants.specs.Decided.{bad-decides}
+use Rattle.plants.specs.Decided.{bad_decides}
 use Rattle.plants.proofs.system.PlantSystem.is_bad.Goals as goal
 
 pub returns : goal.returns
 returns g c = record {
   reply = c.is-bad.ensures;
-  rules = Decides-at _ _ c.is-bad.ensures (bad-decides c.args.self.now.layout c.args.state.now);
+  rules = Decides-at _ _ c.is-bad.ensures (bad_decides c.args.self.now.layout c.args.state.now);
 }

@@ -1,6 +1,6 @@
 -- The line of a step that fits reads back as that step, by the law.
-use Rattle.lines.proofs.Logs.{state-line}
-use Rattle.charts.specs.Numbered.{chart-numbered}
+use Rattle.lines.proofs.Logs.{state_line}
+use Rattle.charts.specs.Numbered.{chart_numbered}
 use Rattle.charts.proofs.chart.logging.ChartLoggable.write.Goals as goal
 
 pub returns : goal.returns
@@ -10,5 +10,5 @@ returns c =
     record {
       answer = w.answer;
       after = w.after;
-      back = state-line _ _ _ (chart-numbered x.entries x.few_steps) c.args.state.now c.args.out.now _ _ w.answer w.after;
+      back = state_line _ _ _ (chart_numbered x.entries x.few_steps) c.args.state.now c.args.out.now _ _ w.answer w.after;
     }

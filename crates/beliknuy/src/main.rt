@@ -1,4 +1,6 @@
 // Reads lines from standard input and writes their log to standard output.
+#![tactic(auto)]
+
 use logs::log::{MOST_BYTES, log};
 use std::io;
 use std::io::{Read, Write};

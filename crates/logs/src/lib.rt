@@ -1,4 +1,6 @@
 // The log of an input: one answer for each of its lines.
+#![tactic(auto)]
+
 mod drafting;
 pub mod log;
 mod notes;

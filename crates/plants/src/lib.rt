@@ -1,4 +1,6 @@
 // Plants: tasks on resources under a scheduling policy, one tick at a time.
+#![tactic(auto)]
+
 mod bits;
 mod candidates;
 pub mod draft;

@@ -1,4 +1,6 @@
 // Tests of plants and policies on examples.
+#![tactic(auto)]
+
 #[cfg(test)]
 mod entries;
 #[cfg(test)]

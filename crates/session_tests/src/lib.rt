@@ -1,4 +1,6 @@
 // Tests of charts, sessions and judging at their limits.
+#![tactic(auto)]
+
 #[cfg(test)]
 mod chart_tests;
 pub mod ring;

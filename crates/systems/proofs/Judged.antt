@@ -5,7 +5,7 @@ use Rattle.std.proofs.lemmas.List.{drop_more, drop_all}
 use Rattle.std.proofs.lemmas.Bool.{cond-true, cond-false, cond_both}
 use Rattle.systems.specs.Systems.{Meaning, Legal, led}
 use Rattle.systems.specs.Outcomes.{answer_of}
-use Rattle.systems.specs.Judging.{ended, judged_from, judged, Judges}
+use Rattle.systems.specs.Judging.{ended, judged_from, judged, Judges, SaysWhy}
 use Rattle.systems.specs.declared.outcome.Outcome.{Outcome}
 use Rattle.systems.specs.declared.outcome.Outcome.TheVariants.{Accepted, NotLegal, EndsNotBad}
 
@@ -57,6 +57,10 @@ module _ {S : Type 0} (m : Meaning S) where
   judges cs r e = record {
     accepted_bad = λ z. accepted_from cs m.first 0 (ap (λ (q : ℕ × ℕ). q.0) (sym e) ∙ z);
     bad_accepted = λ b. e ∙ ap answer_of (run cs b.0 ∙ cond-true (m.bad (led m m.first cs)) _ _ b.1);
+  }
+
+  pub says_why : (cs : List ℕ) (r : ℕ × ℕ) → r ≡ answer_of (judged m cs) → SaysWhy m cs r
+  says_why cs r e = record {
     ends_good = λ l b. e ∙ ap answer_of (run cs l ∙ cond-false (m.bad (led m m.first cs)) _ _ b);
     stops_at = λ k h l n.
         let p : 0 + k ≡ k = omega arith in

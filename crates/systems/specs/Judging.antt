@@ -17,10 +17,13 @@ judged_from m x (c ∷ cs) i = cond (m.legal x c) (judged_from m (m.next x c) cs
 abbrev pub judged : {S : Type 0} → Meaning S → List ℕ → Outcome
 judged m cs = judged_from m m.first cs 0
 
--- an answer accepts the choices exactly when they are a run whose last state is bad, and says why it does not:
--- a run that ends in another state, or the position of the first choice that is not legal
+-- an answer accepts the choices exactly when they are a run whose last state is bad
 pub record Judges {S : Type 0} (m : Meaning S) (cs : List ℕ) (r : ℕ × ℕ) : Type 0 where
   pub accepted_bad : r.0 ≡ 0 → BadRun m cs
   pub bad_accepted : BadRun m cs → r ≡ (0, length cs)
+
+-- where an answer does not accept the choices it says why: they are a run that ends in another state, or the position
+-- of the first choice that is not legal
+pub record SaysWhy {S : Type 0} (m : Meaning S) (cs : List ℕ) (r : ℕ × ℕ) : Type 0 where
   pub ends_good : Run m cs → m.bad (last m cs) ≡ false → r ≡ answer_of (EndsNotBad (length cs))
   pub stops_at : (k : ℕ) → k < length cs → Run m (take k cs) → m.legal (last m (take k cs)) (slice_index cs k) ≡ false → r ≡ answer_of (NotLegal k)

@@ -1,14 +1,14 @@
 // Judging a list of choices: is it a run whose last state is bad?
 ghost use Rattle.std.specs.Prelude.{◌≡◌};
 ghost use Rattle.systems.specs.Outcomes.{answer_of};
-ghost use Rattle.systems.specs.Judging.{judged, ended, Judges};
+ghost use Rattle.systems.specs.Judging.{judged, ended, Judges, SaysWhy};
 
 use crate::outcome::Outcome;
 use crate::system::System;
 
 // A run of this length ends at the state.
 fn ending<Y: System>(system: &Y, state: &Y::State, length: usize) -> Outcome
-    ensures { result ≡ ended (meaning system.now) state.now length }
+    ensures { result ≡ ended (Y.meaning system.now) state.now length }
 {
     if system.is_bad(state) {
         Outcome::Accepted(length)
@@ -19,7 +19,7 @@ fn ending<Y: System>(system: &Y, state: &Y::State, length: usize) -> Outcome
 
 // Follows the choices from the first state.
 fn outcome<Y: System>(system: &Y, choices: &[u32]) -> Outcome
-    ensures { result ≡ judged (meaning system.now) choices.now }
+    ensures { result ≡ judged (Y.meaning system.now) choices.now }
 {
     let mut state = system.first();
     for (i, choice) in choices.iter().enumerate() {
@@ -33,8 +33,9 @@ fn outcome<Y: System>(system: &Y, choices: &[u32]) -> Outcome
 
 // Accepts the choices, with their number, exactly when they are a run whose last state is bad.
 pub fn judge<Y: System>(system: &Y, choices: &[u32]) -> (u32, usize)
-    ensures answer { result ≡ answer_of (judged (meaning system.now) choices.now) }
-    ensures exact { Judges (meaning system.now) choices.now result }
+    ensures answer { result ≡ answer_of (judged (Y.meaning system.now) choices.now) }
+    ensures exact { Judges (Y.meaning system.now) choices.now result }
+    ensures why { SaysWhy (Y.meaning system.now) choices.now result }
 {
     outcome(system, choices).answer()
 }

@@ -1,6 +1,8 @@
 // Replays every case of the data folder through the library's one call, and compares the log with the expected one.
 // A set of cases is a folder with a file INDEX.tsv, whose first column names the cases, and NAME.in and NAME.log of
 // each.
+#![tactic(auto)]
+
 ghost use Rattle.std.specs.Prelude.{◌≡◌, IfOk, Decides, MatchOption};
 ghost use Rattle.logs.specs.Log.{log_of};
 

@@ -1,7 +1,7 @@
 // Sessions and judging at their limits.
 use crate::ring::Ring;
 use sessions::cell::Cell;
-use sessions::lists::check_list;
+use sessions::lists::{check_list, check_list_in};
 use sessions::session::Session;
 use std::test::Fail;
 use systems::judge::judge;
@@ -85,22 +85,23 @@ fn room_above_sixty_thousand(rt: HostRuntime) -> Result<(), Fail> {
 }
 
 #[test]
+fn lists_checked_whole(rt: HostRuntime) {
+    let ring = Ring { last: 2 };
+    let mut cells = [STALE; 3];
+    assert_eq!(rt; check_list(&ring, &mut cells, &[2, 0, 2, 1]), (0, 3));
+    assert_eq!(rt; check_list(&ring, &mut cells, &[0, 1]), (16, 1));
+    assert_eq!(rt; check_list(&ring, &mut cells, &[1, 2]), (15, 0));
+}
+
+#[test]
 fn whole_list_is_closed(rt: HostRuntime) {
     let ring = Ring { last: 2 };
     let mut cells = [STALE; 4];
-    let (answer, after) = check_list(&ring, &mut cells, &[2, 0, 2, 1]);
+    let (answer, after) = check_list_in(&ring, &mut cells, &[2, 0, 2, 1]);
     assert_eq!(rt; answer, (0, 3));
     assert!(rt; after.len() == 4);
     assert_eq!(rt; (after[2].state, after[2].settled), (1, true));
     assert_eq!(rt; (after[3].state, after[3].settled), (7, true));
-}
-
-#[test]
-fn lists_that_are_not_whole(rt: HostRuntime) {
-    let ring = Ring { last: 2 };
-    let mut cells = [STALE; 3];
-    assert_eq!(rt; check_list(&ring, &mut cells, &[0, 1]).0, (16, 1));
-    assert_eq!(rt; check_list(&ring, &mut cells, &[1, 2]).0, (15, 0));
 }
 
 #[test]

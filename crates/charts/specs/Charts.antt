@@ -1,5 +1,5 @@
 -- What a chart means as a system: the states are the steps, the choices the inputs.
-use Rattle.std.specs.Prelude.{ℕ, Bool, cond, not, ◌&&◌, nat_lt}
+use Rattle.std.specs.Prelude.{ℕ, Bool, cond, not, ◌&&◌, nat_lt, eqb}
 use Rattle.systems.specs.Systems.{Meaning}
 use Rattle.charts.specs.Entries.{step_at, lead_at}
 use Rattle.charts.specs.declared.entries.Entries.{Entries}

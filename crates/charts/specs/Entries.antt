@@ -13,7 +13,7 @@ most_steps = 64
 abbrev pub most_inputs : ℕ
 most_inputs = 8
 
--- a step from which every input leads to step n
+-- a step that every input leads to the step n
 abbrev pub leading : Bool → ℕ → Step
 leading forbidden n = record { forbidden = forbidden; leads = replicate most_inputs n }
 
@@ -74,6 +74,6 @@ Inside e = (s i : ℕ) → (s < e.steps) × (i < most_inputs) → lead_at e s i 
 abbrev pub Idle : Entries → Type 0
 Idle e = (s i : ℕ) → (s < e.steps) × (e.inputs ≤ i) × (i < most_inputs) → lead_at e s i ≡ s
 
--- by an input just accepted every step that is entered leads to itself
-abbrev pub LeadsToItself : Entries → Entries → Type 0
-LeadsToItself e after = e.inputs < after.inputs → (s : ℕ) → s < e.steps → lead_at after s e.inputs ≡ s
+-- after an accepted input, every step that is entered leads by it to itself
+abbrev pub Home : Entries → Entries → Type 0
+Home e after = e.inputs < after.inputs → (s : ℕ) → s < e.steps → lead_at after s e.inputs ≡ s

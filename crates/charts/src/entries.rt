@@ -1,6 +1,6 @@
 // What has been entered into a chart, and what one more entry makes of it.
 ghost use Rattle.std.specs.Prelude.{◌≡◌, ◌≤◌, length};
-ghost use Rattle.charts.specs.Entries.{most_steps, most_inputs, begun as first_entries, add_step as step_entry, with_step as step_Added, add_input as input_entry, with_input as input_added, set_lead as lead_entry, with_lead as lead_added};
+ghost use Rattle.charts.specs.Entries.{most_steps, most_inputs, begun as first_entries, add_step as step_entry, with_step as step_added, add_input as input_entry, with_input as input_added, set_lead as lead_entry, with_lead as lead_added};
 
 use systems::outcome::Outcome;
 
@@ -43,7 +43,7 @@ impl Entries {
     // One step more, from which every input leads to the step itself.
     pub(crate) fn with_step(mut self, forbidden: u32) -> (Outcome, Entries)
         ensures outcome { result.0 ≡ step_entry self forbidden }
-        ensures after { result.1 ≡ step_Added self forbidden }
+        ensures after { result.1 ≡ step_added self forbidden }
         ensures sized { length self.table ≡ most_steps }
     {
         let step = self.steps;

@@ -1,7 +1,7 @@
 // The calls by which a chart is entered, and fixing it.
 ghost use Rattle.std.specs.Prelude.{◌≡◌};
 ghost use Rattle.systems.specs.Outcomes.{answer_of};
-ghost use Rattle.charts.specs.Entries.{begun, add_step as step_entry, with_step, add_input as input_entry, with_input, set_lead as lead_entry, with_lead, LeadsToItself};
+ghost use Rattle.charts.specs.Entries.{begun, add_step as step_entry, with_step, add_input as input_entry, with_input, set_lead as lead_entry, with_lead, Home};
 ghost use Rattle.charts.specs.Leads.{FollowsLeads};
 
 use super::DraftChart;
@@ -32,7 +32,7 @@ impl DraftChart {
     pub fn add_input(&mut self) -> (u32, usize)
         ensures answer { result ≡ answer_of (input_entry self.old.entries) }
         ensures after { self.new.entries ≡ with_input self.old.entries }
-        ensures itself { LeadsToItself self.old.entries self.new.entries }
+        ensures home { Home self.old.entries self.new.entries }
     {
         let (outcome, entries) = self.entries.with_input();
         self.entries = entries;
@@ -61,14 +61,8 @@ impl DraftChart {
         ensures entries { result.entries ≡ self.entries }
         ensures leads { FollowsLeads result.entries }
     {
-        fixed(self)
-    }
-}
-
-fn fixed(draft: DraftChart) -> Chart
-    ensures { result.entries ≡ draft.entries }
-{
-    Chart {
-        entries: draft.entries,
+        Chart {
+            entries: self.entries,
+        }
     }
 }

@@ -6,7 +6,7 @@ use Rattle.charts.proofs.chart.logging.ChartLoggable.write.Goals as goal
 pub returns : goal.returns
 returns c =
     let x = c.args.self.now in
-    let w = c.write-step.ensures in
+    let w = c.write_step.ensures in
     record {
       answer = w.answer;
       after = w.after;

@@ -39,8 +39,8 @@ use Rattle.logs.specs.declared.opening.Kind.TheVariants.{Plant, Chart}
 use Rattle.logs.specs.Answers.{Said, is, nth, answered}
 use Rattle.logs.specs.Pieces.{pieces}
 use Rattle.logs.specs.Serving.{Logged, after_offer, reply, is_shown, says_in, goes_in, served}
-use Rattle.logs.specs.Turns.{Turn, Opening, PlantDraft, ChartDraft, OnPlant, OnChart, Memory, kind, begins, opening, plant_reply, plant_after, task_of, chart_reply, chart_after, site_plant, logged_plant, logged_chart, says, entered, fixed, goes, SafeTicks, SafeTurn}
-use Rattle.logs.specs.Log.{bytes_read, answers, turn_after, fresh, places, lines_read, ClosedIsSafe, AllSmall, Complete, AnyMemory}
+use Rattle.logs.specs.Turns.{Turn, Opening, PlantDraft, ChartDraft, OnPlant, OnChart, Memory, kind, begins, opening, plant_reply, plant_after, task_of, chart_reply, chart_after, site_plant, logged_plant, logged_chart, says, entered, fixed, goes, SafeTicks, SafeTurn, SafeTicksTurn}
+use Rattle.logs.specs.Log.{bytes_read, answers, turn_after, fresh, places, lines_read, ClosedIsSafe, ClosedIsNeverLate, AllSmall, Complete, AnyMemory}
 use Rattle.logs.proofs.Ahead.{few_heard}
 use Rattle.logs.proofs.Served.{Narrow, reply_small}
 use Rattle.logs.proofs.Noted.{small_pair}
@@ -182,22 +182,25 @@ closed_in v law t h tag ns n e = ⊎_elim
     (promise v.means law t h _ refl).closed_safe closed)
     (cases_Bool (is_shown v t tag ns))
 
-closed_turn : (turn : Turn) (l : Said) (n : ℕ) → Sound turn → says turn l ≡ (Verd, 0 ∷ n ∷ []) → SafeTurn turn
+closed_turn : (turn : Turn) (l : Said) (n : ℕ) → Sound turn → says turn l ≡ (Verd, 0 ∷ n ∷ []) → SafeTurn turn × SafeTicksTurn turn
 closed_turn Opening l n s e = absurd (out_of_turn (λ u. answer_of (opening (kind u) u)) l.0 Verd n refl e)
 closed_turn (PlantDraft x) l n s e = absurd (out_of_turn (λ u. answer_of (plant_reply x u l.1)) l.0 Verd n refl e)
 closed_turn (ChartDraft x) l n s e = absurd (out_of_turn (λ u. answer_of (chart_reply x u l.1)) l.0 Verd n refl e)
 closed_turn (OnPlant x t) l n s e =
     let safe = closed_in (logged_plant x) (plant_lawful x s.0) t s.1.reached l.0 l.1 n e in
     (safe, safe_ticks x s.0 safe)
-closed_turn (OnChart x t) l n s e = closed_in (logged_chart x) (chart_lawful x s.0.valid) t s.1.reached l.0 l.1 n e
+closed_turn (OnChart x t) l n s e = (closed_in (logged_chart x) (chart_lawful x s.0.valid) t s.1.reached l.0 l.1 n e, tt)
 
-closed_at : (ls : List Said) (turn : Turn) → Sound turn → (k n : ℕ) → get_or (answers fresh turn ls) k no_line ≡ (Verd, 0 ∷ n ∷ []) → SafeTurn (turn_after fresh turn (take k ls))
+closed_at : (ls : List Said) (turn : Turn) → Sound turn → (k n : ℕ) → get_or (answers fresh turn ls) k no_line ≡ (Verd, 0 ∷ n ∷ []) → SafeTurn (turn_after fresh turn (take k ls)) × SafeTicksTurn (turn_after fresh turn (take k ls))
 closed_at [] turn s k n e = absurd (omega (arith, same_tag no_line (Verd, 0 ∷ n ∷ []) e))
 closed_at (l ∷ ls) turn s zero n e = closed_turn turn l n s e
 closed_at (l ∷ ls) turn s (suc k) n e = closed_at ls (goes fresh turn l) (goes_sound fresh fresh_sized turn l s) k n e
 
 pub closed_is_safe : (input : List ℕ) → ClosedIsSafe input
-closed_is_safe input k n e = closed_at (lines_read input) Opening tt k n e
+closed_is_safe input k n e = (closed_at (lines_read input) Opening tt k n e).0
+
+pub closed_is_never_late : (input : List ℕ) → ClosedIsNeverLate input
+closed_is_never_late input k n e = (closed_at (lines_read input) Opening tt k n e).1
 
 -- every line has an answer, and every number fits its column
 

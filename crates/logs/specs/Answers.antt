@@ -42,11 +42,6 @@ unheard t = cond (is Line t) NotALine OutOfTurn
 abbrev pub answered : Tag → ℕ × ℕ → Said
 answered t a = (t, a.0 ∷ a.1 ∷ [])
 
--- the answers to lines, one after another; a line may change the state in which the next is answered
-abbrev pub answers_by : {T : Type 0} → (T → Said → Said) → (T → Said → T) → T → List Said → List Said
-answers_by say go t [] = []
-answers_by say go t (l ∷ ls) = say t l ∷ answers_by say go (go t l) ls
-
 -- the bytes of a line, and of lines one after another
 abbrev pub line_spelled : Said → List ℕ
 line_spelled a = spelling a.0 a.1

@@ -7,9 +7,9 @@ use Rattle.lines.specs.Reading.{no_line}
 use Rattle.lines.specs.declared.tag.Tag.{Tag}
 use Rattle.lines.specs.declared.tag.Tag.TheVariants.{Verd, Runs}
 use Rattle.logs.specs.declared.opening.Kind.{Kind}
-use Rattle.logs.specs.Answers.{Said, answers_by, spelled}
+use Rattle.logs.specs.Answers.{Said, spelled}
 use Rattle.logs.specs.Pieces.{Splits, said_by, lines_in}
-use Rattle.logs.specs.Turns.{Turn, Opening, Memory, begins, says, goes, SafeTurn, BadRunTurn}
+use Rattle.logs.specs.Turns.{Turn, Opening, Memory, begins, says, goes, SafeTurn, SafeTicksTurn, BadRunTurn}
 
 -- the most bytes of an input that are read, and the places of a session
 abbrev pub most_bytes : ℕ
@@ -18,9 +18,10 @@ most_bytes = 60000
 abbrev pub places : ℕ
 places = 256
 
--- the answers to lines
+-- the answers to lines, one after another
 abbrev pub answers : Memory → Turn → List Said → List Said
-answers cells = answers_by says (goes cells)
+answers cells turn [] = []
+answers cells turn (l ∷ ls) = says turn l ∷ answers cells (goes cells turn l) ls
 
 -- the answers to what is left once a draft has begun, or none where none has
 abbrev pub answers_left : Memory → Option Kind → List Said → List Said
@@ -35,12 +36,13 @@ turn_after cells = fold (goes cells)
 abbrev pub fresh : Memory
 fresh = record { for_plants = replicate places (cell first_state false); for_charts = replicate places (cell 0 false) }
 
--- the bytes that are read of an input, the lines in them, and their answers
+-- the bytes that are read of an input
 abbrev pub bytes_read : List ℕ → List ℕ
 bytes_read input = take most_bytes input
 
+-- the lines that are read of an input, and their answers
 abbrev pub lines_read : List ℕ → List Said
-lines_read input = lines_in (bytes_read input)
+lines_read input = lines_in (take most_bytes input)
 
 abbrev pub answers_to : List ℕ → List Said
 answers_to input = answers fresh Opening (lines_read input)
@@ -68,7 +70,11 @@ answer_at input k = slice_index_or (answers_to input) k no_line
 
 -- where an answer accepts a verdict, the plant or chart that the lines before it entered is safe
 abbrev pub ClosedIsSafe : List ℕ → Type 0
-ClosedIsSafe input = (k n : ℕ) → answer_at input k ≡ (Verd, 0 ∷ n ∷ []) → SafeTurn (turn_at input k)
+ClosedIsSafe input = (k n : ℕ) → slice_index_or (answers_to input) k no_line ≡ (Verd, 0 ∷ n ∷ []) → SafeTurn (turn_after fresh Opening (take k (lines_read input)))
+
+-- there no chain of ticks of the plant, if the lines entered one, ends in a state with a late task
+abbrev pub ClosedIsNeverLate : List ℕ → Type 0
+ClosedIsNeverLate input = (k n : ℕ) → answer_at input k ≡ (Verd, 0 ∷ n ∷ []) → SafeTicksTurn (turn_at input k)
 
 -- a line asks with RUNS about n choices, and they are a bad run of what the lines before it entered
 pub record BadRunLine (turn : Turn) (line : Said) (n : ℕ) : Type 0 where

@@ -42,7 +42,7 @@ abbrev pub said_by : List (List ℕ) → List Said
 said_by ps = map (λ p. heard (line_of p)) ps
 
 abbrev pub lines_in : List ℕ → List Said
-lines_in bs = said_by (pieces bs)
+lines_in bs = map (λ p. heard (line_of p)) (pieces bs)
 
 -- the lines that a reader has ahead
 abbrev pub lines_ahead : LineReader → List Said

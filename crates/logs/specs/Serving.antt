@@ -1,17 +1,15 @@
 -- Lines in a session: what each is answered, and the table that it leaves.
-use Rattle.std.specs.Prelude.{ℕ, Bool, cond, ◌&&◌, List, Some, None, Option, nat_lt}
+use Rattle.std.specs.Prelude.{ℕ, Bool, cond, ◌&&◌, List, [], ◌∷◌, Some, None, Option, nat_lt}
 use Rattle.systems.specs.Systems.{Meaning}
 use Rattle.systems.specs.Outcomes.{answer_of}
 use Rattle.systems.specs.Judging.{judged}
 use Rattle.systems.specs.declared.outcome.Outcome.{Outcome}
 use Rattle.systems.specs.declared.outcome.Outcome.TheVariants.{Unfit}
-use Rattle.systems.specs.declared.system.System.{Ghosts as System}
 use Rattle.sessions.specs.Tables.{Listing, state_at}
 use Rattle.sessions.specs.Calls.{offer, offered, settle, settled, shown, verdict}
-use Rattle.lines.specs.declared.loggable.Loggable.{Ghosts as Loggable}
 use Rattle.lines.specs.declared.tag.Tag.{Tag}
 use Rattle.lines.specs.declared.tag.Tag.TheVariants.{Verd, Setl, Show, Offr, Runs}
-use Rattle.logs.specs.Answers.{Said, is, nth, unheard, answered, answers_by}
+use Rattle.logs.specs.Answers.{Said, is, nth, unheard, answered}
 
 -- a system as it is logged: what it means, the numbers of a state's line, and the state that numbers are
 pub record Logged (S : Type 0) : Type 0 where
@@ -19,9 +17,8 @@ pub record Logged (S : Type 0) : Type 0 where
   pub numbers : S → List ℕ
   pub restored : List ℕ → Option S
 
--- the same of a value of a type that can be logged, by the ghost members of its traits
-abbrev pub logged : {Y S : Type 0} → System Y S → Loggable Y S → Y → Logged S
-logged y z system = record { means = y.meaning system; numbers = z.numbers system; restored = z.restored system }
+abbrev pub logged : {Y S : Type 0} → (Y → Meaning S) → (Y → S → List ℕ) → (Y → List ℕ → Option S) → Y → Logged S
+logged meaning numbers restored system = record { means = meaning system; numbers = numbers system; restored = restored system }
 
 module _ {S : Type 0} (v : Logged S) where
   -- numbers that are no state at all do not fit either
@@ -53,6 +50,7 @@ module _ {S : Type 0} (v : Logged S) where
   says_in t tag ns =
       cond (is_shown t tag ns) (Offr, v.numbers (state_at v.means t (nth ns 0))) (answered tag (reply t tag ns))
 
-  -- the answers to lines
+  -- the answers to lines, one after another
   abbrev pub served : Listing S → List Said → List Said
-  served = answers_by (λ t l. says_in t l.0 l.1) (λ t l. goes_in t l.0 l.1)
+  served t [] = []
+  served t (l ∷ ls) = says_in t l.0 l.1 ∷ served (goes_in t l.0 l.1) ls

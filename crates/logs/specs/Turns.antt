@@ -132,14 +132,21 @@ pub record SafeTicks (x : Layout) : Type 0 where
   pub goes_on : (cs : List ℕ) (xs : List PlantState) → Chains site x first_state cs xs
       → (c : ℕ) × (s : PlantState) × Tick site x c (end_of first_state xs) s
 
--- what was fixed is safe: no run of the plant or chart, of any length, is bad, and every run can go on; of a plant the
--- relation of the tick says so too
+-- what was fixed is safe: no run of the plant or chart, of any length, is bad, and every run can go on
 abbrev pub SafeTurn : Turn → Type 0
 SafeTurn Opening = ⊥
 SafeTurn (PlantDraft x) = ⊥
 SafeTurn (ChartDraft x) = ⊥
-SafeTurn (OnPlant x t) = Safe (site_plant x) × SafeTicks x
+SafeTurn (OnPlant x t) = Safe (site_plant x)
 SafeTurn (OnChart x t) = Safe (chart_meaning x)
+
+-- of a plant that was fixed the relation of the tick says so too
+abbrev pub SafeTicksTurn : Turn → Type 0
+SafeTicksTurn Opening = ⊥
+SafeTicksTurn (PlantDraft x) = ⊥
+SafeTicksTurn (ChartDraft x) = ⊥
+SafeTicksTurn (OnPlant x t) = SafeTicks x
+SafeTicksTurn (OnChart x t) = Unit {0}
 
 -- choices that are a bad run of what was fixed; before that there are none
 abbrev pub BadRunTurn : Turn → List ℕ → Type 0

@@ -115,7 +115,7 @@ pub(crate) fn draft_lines<D: Drafting>(
     ensures { IfOk result (λ ready. (cells : Memory) → out.new.items ++ spelled (if ready then answers cells (fixed cells (turn draft.new)) (lines_ahead reader.new) else []) ≡ out.old.items ++ spelled (answers cells (turn draft.old) (lines_ahead reader.old))) }
 {
     while !reader.at_end() {
-        let line = reader.next_line();
+        let (_, line) = reader.next_line();
         let tag = line.tag();
         let (number, value) = draft.enter(tag, line.numbers());
         note(out, tag, number, value)?;

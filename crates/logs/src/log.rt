@@ -5,7 +5,7 @@ ghost use Rattle.plants.specs.Layouts.{nothing};
 ghost use Rattle.logs.specs.Answers.{spelled};
 ghost use Rattle.logs.specs.Pieces.{lines_in, lines_ahead};
 ghost use Rattle.logs.specs.Turns.{Opening, ChartDraft, PlantDraft};
-ghost use Rattle.logs.specs.Log.{answers, answers_left, fresh, most_bytes, log_of, ClosedIsSafe, JudgesRuns, RefusedStays, ReadInPieces, Complete, AnyMemory};
+ghost use Rattle.logs.specs.Log.{answers, answers_left, fresh, most_bytes, log_of, ClosedIsSafe, ClosedIsNeverLate, JudgesRuns, RefusedStays, ReadInPieces, Complete, AnyMemory};
 
 use crate::drafting::draft_lines;
 use crate::opening::{Kind, open};
@@ -101,6 +101,7 @@ pub fn log(heap: Global, input: &[u8]) -> Result<Vec<u8>, AllocError>
     ensures bytes { IfOk result (λ v. v.items ≡ log_of input.now) }
     ensures pieces { ReadInPieces input.now }
     ensures closed { ClosedIsSafe input.now }
+    ensures ticks { ClosedIsNeverLate input.now }
     ensures runs { JudgesRuns input.now }
     ensures refused { RefusedStays input.now }
     ensures complete { Complete input.now }

@@ -47,8 +47,8 @@ pub(crate) fn note_state<Y: Loggable>(
     system: &Y,
     state: &Y::State,
 ) -> Result<(), AllocError>
-    requires { (Y.System.meaning system.now).fits state.now ≡ true }
-    ensures { OnOk result (out.new.items ≡ out.old.items ++ spelling Offr (Y.Loggable.numbers system.now state.now)) }
+    requires { (Y.meaning system.now).fits state.now ≡ true }
+    ensures { OnOk result (out.new.items ≡ out.old.items ++ spelling Offr (Y.numbers system.now state.now)) }
 {
     let mut buffer = [0; LONGEST];
     let (_, count) = system.write(state, &mut buffer);

@@ -57,7 +57,7 @@ pub(crate) fn open(reader: &mut LineReader, out: &mut Vec<u8>) -> Result<Option<
     ensures { IfOk result (λ k. (cells : Memory) → out.new.items ++ spelled (answers_left cells k (lines_ahead reader.new)) ≡ out.old.items ++ spelled (answers cells Opening (lines_ahead reader.old))) }
 {
     while !reader.at_end() {
-        let line = reader.next_line();
+        let (_, line) = reader.next_line();
         let tag = line.tag();
         let kind = kind_of(tag);
         let (number, value) = outcome(kind, tag).answer();

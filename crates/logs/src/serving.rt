@@ -24,11 +24,11 @@ use systems::outcome::Outcome;
 
 // Offers the state that the numbers are; numbers that are no state do not fit.
 fn offer_numbers<Y: Loggable>(system: &Y, session: &mut Session<Y>, numbers: &[u32]) -> (u32, usize)
-    requires { system_of Y.System.meaning session.old ≡ Y.System.meaning system.now }
-    ensures answer { result ≡ answer_of (offer_of (logged Y.System Y.Loggable system.now) (table_of session.old) (Y.Loggable.restored system.now numbers.now)) }
-    ensures system { system_of Y.System.meaning session.new ≡ Y.System.meaning system.now }
-    ensures after { table_of session.new ≡ after_offer (logged Y.System Y.Loggable system.now) (table_of session.old) (Y.Loggable.restored system.now numbers.now) }
-    ensures past { HasPast Y.System.meaning session.old → HasPast Y.System.meaning session.new }
+    requires { system_of Y.meaning session.old ≡ Y.meaning system.now }
+    ensures answer { result ≡ answer_of (offer_of (logged Y.meaning Y.numbers Y.restored system.now) (table_of session.old) (Y.restored system.now numbers.now)) }
+    ensures system { system_of Y.meaning session.new ≡ Y.meaning system.now }
+    ensures after { table_of session.new ≡ after_offer (logged Y.meaning Y.numbers Y.restored system.now) (table_of session.old) (Y.restored system.now numbers.now) }
+    ensures past { HasPast Y.meaning session.old → HasPast Y.meaning session.new }
 {
     match system.state_of(numbers) {
         Some(state) => session.offer(state),
@@ -43,11 +43,11 @@ fn reply<Y: Loggable>(
     tag: Tag,
     numbers: &[u32],
 ) -> (u32, usize)
-    requires { system_of Y.System.meaning session.old ≡ Y.System.meaning system.now }
-    ensures answer { result ≡ replied (logged Y.System Y.Loggable system.now) (table_of session.old) tag numbers.now }
-    ensures system { system_of Y.System.meaning session.new ≡ Y.System.meaning system.now }
-    ensures after { table_of session.new ≡ goes_in (logged Y.System Y.Loggable system.now) (table_of session.old) tag numbers.now }
-    ensures past { HasPast Y.System.meaning session.old → HasPast Y.System.meaning session.new }
+    requires { system_of Y.meaning session.old ≡ Y.meaning system.now }
+    ensures answer { result ≡ replied (logged Y.meaning Y.numbers Y.restored system.now) (table_of session.old) tag numbers.now }
+    ensures system { system_of Y.meaning session.new ≡ Y.meaning system.now }
+    ensures after { table_of session.new ≡ goes_in (logged Y.meaning Y.numbers Y.restored system.now) (table_of session.old) tag numbers.now }
+    ensures past { HasPast Y.meaning session.old → HasPast Y.meaning session.new }
 {
     match tag {
         Tag::Offr => offer_numbers(system, session, numbers),
@@ -77,7 +77,7 @@ fn shows<Y: Loggable>(session: &Session<Y>, tag: Tag, numbers: &[u32]) -> bool
 
 // The state at the place that a SHOW names.
 fn state_shown<Y: Loggable>(session: &Session<Y>, numbers: &[u32]) -> Y::State
-    ensures { result ≡ (shown (system_of Y.System.meaning session.now) (table_of session.now) (nth numbers.now 0)).1 }
+    ensures { result ≡ (shown (system_of Y.meaning session.now) (table_of session.now) (nth numbers.now 0)).1 }
 {
     session.show(number_at(numbers, 0) as usize).1
 }
@@ -89,14 +89,14 @@ fn serve_line<Y: Loggable>(
     line: &Line,
     out: &mut Vec<u8>,
 ) -> Result<(), AllocError>
-    requires same { system_of Y.System.meaning session.old ≡ Y.System.meaning system.now }
-    requires past { HasPast Y.System.meaning session.old }
-    requires choices { (Y.System.meaning system.now).count ≤ largest }
+    requires same { system_of Y.meaning session.old ≡ Y.meaning system.now }
+    requires past { HasPast Y.meaning session.old }
+    requires choices { (Y.meaning system.now).count ≤ largest }
     requires few { length (said line.now).1 ≤ most }
-    ensures items { OnOk result (out.new.items ≡ out.old.items ++ line_spelled (says_in (logged Y.System Y.Loggable system.now) (table_of session.old) (said line.now).0 (said line.now).1)) }
-    ensures system { system_of Y.System.meaning session.new ≡ Y.System.meaning system.now }
-    ensures after { table_of session.new ≡ goes_in (logged Y.System Y.Loggable system.now) (table_of session.old) (said line.now).0 (said line.now).1 }
-    ensures past { HasPast Y.System.meaning session.new }
+    ensures items { OnOk result (out.new.items ≡ out.old.items ++ line_spelled (says_in (logged Y.meaning Y.numbers Y.restored system.now) (table_of session.old) (said line.now).0 (said line.now).1)) }
+    ensures system { system_of Y.meaning session.new ≡ Y.meaning system.now }
+    ensures after { table_of session.new ≡ goes_in (logged Y.meaning Y.numbers Y.restored system.now) (table_of session.old) (said line.now).0 (said line.now).1 }
+    ensures past { HasPast Y.meaning session.new }
 {
     let tag = line.tag();
     let numbers = line.numbers();
@@ -117,13 +117,13 @@ fn serve<Y: Loggable>(
     session: &mut Session<Y>,
     out: &mut Vec<u8>,
 ) -> Result<(), AllocError>
-    requires same { system_of Y.System.meaning session.old ≡ Y.System.meaning system.now }
-    requires past { HasPast Y.System.meaning session.old }
-    requires choices { (Y.System.meaning system.now).count ≤ largest }
-    ensures { OnOk result (out.new.items ≡ out.old.items ++ spelled (served (logged Y.System Y.Loggable system.now) (table_of session.old) (lines_ahead reader.old))) }
+    requires same { system_of Y.meaning session.old ≡ Y.meaning system.now }
+    requires past { HasPast Y.meaning session.old }
+    requires choices { (Y.meaning system.now).count ≤ largest }
+    ensures { OnOk result (out.new.items ≡ out.old.items ++ spelled (served (logged Y.meaning Y.numbers Y.restored system.now) (table_of session.old) (lines_ahead reader.old))) }
 {
     while !reader.at_end() {
-        let line = reader.next_line();
+        let (_, line) = reader.next_line();
         serve_line(system, session, &line, out)?;
     }
     Ok(())
@@ -136,8 +136,8 @@ pub(crate) fn serve_session<Y: Loggable>(
     cells: &mut [Cell<Y::State>],
     out: &mut Vec<u8>,
 ) -> Result<(), AllocError>
-    requires { (Y.System.meaning system.now).count ≤ largest }
-    ensures { OnOk result (out.new.items ≡ out.old.items ++ spelled (served (logged Y.System Y.Loggable system.now) (empty cells.old) (lines_ahead reader.old))) }
+    requires { (Y.meaning system.now).count ≤ largest }
+    ensures { OnOk result (out.new.items ≡ out.old.items ++ spelled (served (logged Y.meaning Y.numbers Y.restored system.now) (empty cells.old) (lines_ahead reader.old))) }
 {
     let mut session = Session::open(system, cells);
     serve(reader, system, &mut session, out)?;

@@ -19,8 +19,8 @@ note_state-requires g c =
     let law = g.met.Y.System.lawful c.args.system.now in
     let h : Reached m t = subst (λ n. Reached n t) c.requires.same c.requires.past in
     let on = (and_parts (is Show c.tag-tag.result) _ (sym c.if-shows.ensures)).1 in
-    shown_fits m law t h (nth c.numbers-numbers.result.now 0) c.state-shown-state.result on
-    (c.state-shown-state.ensures ∙ ap (λ n. (shown n t (nth c.numbers-numbers.result.now 0)).1) c.requires.same)
+    shown_fits m law t h (nth c.numbers-numbers.result.now 0) c.state_shown-state.result on
+    (c.state_shown-state.ensures ∙ ap (λ n. (shown n t (nth c.numbers-numbers.result.now 0)).1) c.requires.same)
 
 pub note-requires : goal.note-requires
 note-requires g c =

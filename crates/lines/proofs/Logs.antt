@@ -1,14 +1,13 @@
--- A state's line: there is room for it, it reads back as the state, and the state has no other. What is written with
--- more numbers than a line has is no line.
-use Rattle.std.proofs.Common.{◌≡◌, ℕ, ◌<◌, ◌≤◌, true, List, length, Option, sym, ap, ◌∙◌, subst, arith}
-use Rattle.std.proofs.lemmas.Bool.{le-leb, leb-true}
+-- A state's line: there is room for it, it reads back as the state, and the state has no other.
+use Rattle.std.proofs.Common.{◌≡◌, ℕ, ◌≤◌, true, List, length, Option, sym, ap, ◌∙◌, subst, arith}
+use Rattle.std.proofs.lemmas.Bool.{le-leb}
 use Rattle.systems.specs.Systems.{Meaning}
 use Rattle.systems.specs.Outcomes.{answer_of}
 use Rattle.lines.specs.Spelling.{most, longest, Begins}
 use Rattle.lines.specs.Writing.{writing, written}
 use Rattle.lines.specs.Logging.{Numbered, StateLine}
 use Rattle.lines.specs.declared.tag.Tag.TheVariants.{Offr}
-use Rattle.lines.proofs.Buffers.{writing_accepted, only_written, reads_back}
+use Rattle.lines.proofs.Buffers.{writing_accepted, reads_back}
 use Rattle.lines.proofs.Lines.{length_spelling}
 
 -- the numbers of a state that fits have room in the longest line
@@ -27,10 +26,3 @@ state_line m numbers restored law x out after r a w f z =
       only = λ t ns b. let o = back.only t ns b in (o.0, ap restored o.1 ∙ law.restores x f);
       one_spelling = λ ns e. subst (λ ms. Begins after Offr ms) (sym (law.one_list x ns f e)) back.begins;
     }
-
--- numbers too many for a line are written, and no line of any numbers is then read
-pub long_unread : (ns out after : List ℕ) (r : ℕ × ℕ) → r ≡ answer_of (writing Offr ns (length out)) → after ≡ written Offr ns out → r.0 ≡ 0 → most < length ns → (ms : List ℕ) → Begins after Offr ms → ⊥
-long_unread ns out after r a w z h ms b =
-    let same : length ms ≡ length ns = ap length (only_written Offr ns out after r a w z Offr ms b).1 in
-    let few : length ms ≤ most = leb-true (length ms) most b.0.0 in
-    omega arith

@@ -6,7 +6,9 @@ use Rattle.std.proofs.lemmas.Bool.Decides.{nat_tests}
 use Rattle.std.proofs.lemmas.Slice.Eq.{bytes_eq-Decides}
 use Rattle.std.specs.Str.{bytes_eq}
 use Rattle.lines.specs.Spelling.{letters, digit_or_space, column, columns, small, counts, spelling, tag_length, width, largest, feed, Allowed, Begins}
-use Rattle.lines.specs.Reading.{input_of, ahead, Reads, piece, past_piece, tags, tag_of, worth, worths, if_spelled, line_tagged, line_of, heard, Hears, LineExact}
+use Rattle.systems.specs.Outcomes.{answer_of}
+use Rattle.systems.specs.declared.outcome.Outcome.TheVariants.{Accepted}
+use Rattle.lines.specs.Reading.{input_of, ahead, Reads, piece, past_piece, tags, tag_of, worth, worths, if_spelled, line_tagged, line_of, heard, hearing, Hears, LineExact}
 use Rattle.lines.specs.declared.reader.LineReader.{LineReader}
 use Rattle.lines.specs.declared.tag.Tag.{Tag}
 use Rattle.lines.specs.declared.tag.Tag.TheVariants.{Plnt, Chrt, Inpt, Fixd, Verd, Step, Setl, Show, Rsrc, Lead, Task, Offr, Runs, Line}
@@ -135,7 +137,7 @@ pub line_exact : LineExact
 line_exact bs t ns = (line_begins bs t ns, line_some bs t ns)
 
 -- a line that was read is the next piece
-hears_line : (before mid after : LineReader) (answer : ℕ × ℕ) (t : Tag) (ns : List ℕ) → Reads before mid answer t ns → input_of after ≡ input_of mid → after.place ≡ mid.place → answer.0 ≡ 0 → Hears before after (t, ns)
+hears_line : (before mid after : LineReader) (answer : ℕ × ℕ) (t : Tag) (ns : List ℕ) → Reads before mid answer t ns → input_of after ≡ input_of mid → after.place ≡ mid.place → answer.0 ≡ 0 → Hears before after answer (t, ns)
 hears_line before mid after answer t ns r i p z =
     let some = line_some (ahead before) t ns (r.accepted z) in
     let past : mid.place ≡ past_piece before =
@@ -143,11 +145,12 @@ hears_line before mid after answer t ns r i p z =
     record {
       same_input = i ∙ r.same_input;
       passed = p ∙ past;
+      answered = (r.passed z).0 ∙ ap (λ k. answer_of (Accepted k)) past ∙ ap (λ o. answer_of (hearing o (past_piece before))) (sym some);
       said_so = ap heard (sym some);
     }
 
 -- where no line was read, the next piece is none
-hears_none : (before mid after : LineReader) (answer : ℕ × ℕ) (t : Tag) (ns : List ℕ) → Reads before mid answer t ns → input_of after ≡ input_of mid → after.place ≡ past_piece mid → (answer.0 ≡ 0 → ⊥) → Hears before after (t, ns)
+hears_none : (before mid after : LineReader) (answer : ℕ × ℕ) (t : Tag) (ns : List ℕ) → Reads before mid answer t ns → input_of after ≡ input_of mid → after.place ≡ past_piece mid → (answer.0 ≡ 0 → ⊥) → Hears before after answer (t, ns)
 hears_none before mid after answer t ns r i p z =
     let f = r.refused z in
     let none = line_none (ahead before) (λ u ms b. z (r.complete u ms b).0) in
@@ -156,10 +159,11 @@ hears_none before mid after answer t ns r i p z =
     record {
       same_input = i ∙ r.same_input;
       passed = p ∙ past;
+      answered = f.0 ∙ ap (λ o. answer_of (hearing o (past_piece before))) (sym none);
       said_so = f.1 ∙ ap heard (sym none);
     }
 
 -- a reader that passes the piece unless it accepted a line
-pub hears : (accepted : Bool) (before mid after : LineReader) (answer : ℕ × ℕ) (t : Tag) (ns : List ℕ) → eqb answer.0 0 ≡ accepted → Reads before mid answer t ns → input_of after ≡ input_of mid → after.place ≡ cond accepted mid.place (past_piece mid) → Hears before after (t, ns)
+pub hears : (accepted : Bool) (before mid after : LineReader) (answer : ℕ × ℕ) (t : Tag) (ns : List ℕ) → eqb answer.0 0 ≡ accepted → Reads before mid answer t ns → input_of after ≡ input_of mid → after.place ≡ cond accepted mid.place (past_piece mid) → Hears before after answer (t, ns)
 hears true before mid after answer t ns e r i p = hears_line before mid after answer t ns r i p (eqb-true answer.0 0 e)
 hears false before mid after answer t ns e r i p = hears_none before mid after answer t ns r i p (eqb-false answer.0 0 e)

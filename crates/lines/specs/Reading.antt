@@ -2,6 +2,7 @@
 use Rattle.std.specs.Prelude.{◌≡◌, ℕ, zero, suc, ◌+◌, ◌-◌, ◌*◌, ◌/◌, cond, ◌&&◌, List, [], ◌∷◌, length, take, drop, Some, None, Option, ◌==◌, ◌≢◌}
 use Rattle.std.specs.Str.{bytes_eq}
 use Rattle.systems.specs.Outcomes.{answer_of}
+use Rattle.systems.specs.declared.outcome.Outcome.{Outcome}
 use Rattle.systems.specs.declared.outcome.Outcome.TheVariants.{Accepted, NotALine}
 use Rattle.lines.specs.Spelling.{letters, spelling, counts, small, tag_length, width, feed, zero_digit, Begins}
 use Rattle.lines.specs.declared.line.Line.{Line as LineRead}
@@ -74,17 +75,22 @@ line_tagged p (Some t) = if_spelled p t (worths ((length p - tag_length) / width
 unfoldable pub line_of : List ℕ → Option (Tag × List ℕ)
 line_of p = line_tagged p (tag_of (take tag_length p) tags)
 
--- what is heard of a piece
+-- what is heard of a piece, and the outcome where the piece ends at a place
 abbrev pub heard : Option (Tag × List ℕ) → Tag × List ℕ
 heard None = no_line
 heard (Some x) = x
+
+abbrev pub hearing : Option (Tag × List ℕ) → ℕ → Outcome
+hearing None end = NotALine
+hearing (Some x) end = Accepted end
 
 -- the line of the first piece is the line with which the bytes begin, if they begin with one
 abbrev pub LineExact : Type 0
 LineExact = (bs : List ℕ) (t : Tag) (ns : List ℕ) → (line_of (piece bs) ≡ Some (t, ns) → Begins bs t ns) × (Begins bs t ns → line_of (piece bs) ≡ Some (t, ns))
 
--- the next piece is passed, and the line is the one that it is, or LINE with no numbers where it is none
-pub record Hears (before after : LineReader) (line : Tag × List ℕ) : Type 0 where
+-- the next piece is passed, and the answer says whether it is a line and which
+pub record Hears (before after : LineReader) (answer : ℕ × ℕ) (line : Tag × List ℕ) : Type 0 where
   pub same_input : input_of after ≡ input_of before
   pub passed : after.place ≡ past_piece before
+  pub answered : answer ≡ answer_of (hearing (line_of (piece (ahead before))) (past_piece before))
   pub said_so : line ≡ heard (line_of (piece (ahead before)))

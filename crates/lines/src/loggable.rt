@@ -1,5 +1,5 @@
 // Systems whose states can be written as lines.
-ghost use Rattle.std.specs.Prelude.{◌≡◌, ℕ, ◌<◌, ◌≤◌, true, List, length, Some, None, Option as Maybe, ◌≢◌};
+ghost use Rattle.std.specs.Prelude.{◌≡◌, ℕ, ◌≤◌, true, List, length, Some, Option as Maybe};
 ghost use Rattle.systems.specs.Outcomes.{answer_of};
 ghost use Rattle.lines.specs.declared.tag.Tag.TheVariants.{Offr};
 ghost use Rattle.lines.specs.Spelling.{most, longest, Begins};
@@ -9,7 +9,6 @@ ghost use Rattle.lines.specs.Logging.{Numbered, StateLine};
 
 use crate::line::Line;
 use crate::reader::LineReader;
-use crate::tag::Tag;
 use systems::system::System;
 
 pub trait Loggable: System {
@@ -31,29 +30,23 @@ pub trait Loggable: System {
     ghost numbered: { (x : Self) → Numbered (Self.System.meaning x) (numbers x) (restored x) };
 }
 
-// What the numbers of a state's line are restored to; a line with another tag is no state's.
+// What the numbers of a line are restored to.
 fn state_in<L: Loggable>(system: &L, line: &Line) -> Option<L::State>
-    ensures offered { (said line.now).0 ≡ Offr → result ≡ L.Loggable.restored system.now (said line.now).1 }
-    ensures other { ((said line.now).0 ≢ Offr) → result ≡ None }
+    ensures { result ≡ L.Loggable.restored system.now (said line.now).1 }
 {
-    match line.tag() {
-        Tag::Offr => system.state_of(line.numbers()),
-        _ => None,
-    }
+    system.state_of(line.numbers())
 }
 
-// Reads a line and decodes its numbers: the state, if the bytes begin with a state's line.
+// Reads a line and decodes its numbers: what the numbers of a state's line are restored to, if the bytes begin with one.
 fn decoded<L: Loggable>(system: &L, bytes: &[u8]) -> Option<L::State>
-    ensures offered { (ns : List ℕ) → Begins bytes.now Offr ns → result ≡ L.Loggable.restored system.now ns }
-    ensures other { ((ns : List ℕ) → Begins bytes.now Offr ns → ⊥) → result ≡ None }
+    ensures { (ns : List ℕ) → Begins bytes.now Offr ns → result ≡ L.Loggable.restored system.now ns }
 {
     let mut reader = LineReader::new(bytes);
     let (_, line) = reader.read();
     state_in(system, &line)
 }
 
-// Writes a state as a line, reads the line and decodes it: a state that fits comes back, and the longest line has room
-// for it. Nothing is read beside a refused writing, nor where the numbers are too many for a line.
+// Writes a state as a line, reads the line and decodes it: a state that fits comes back, and the longest line has room for it.
 pub fn reread<L: Loggable>(
     system: &L,
     state: &L::State,
@@ -61,15 +54,10 @@ pub fn reread<L: Loggable>(
 ) -> ((u32, usize), Option<L::State>)
     ensures answer { result.0 ≡ answer_of (writing Offr (L.Loggable.numbers system.now state.now) (length buffer.old)) }
     ensures after { buffer.new ≡ written Offr (L.Loggable.numbers system.now state.now) buffer.old }
-    ensures refused { (result.0.0 ≢ 0) → result.1 ≡ None }
     ensures accepted { result.0.0 ≡ 0 → length (L.Loggable.numbers system.now state.now) ≤ most → result.1 ≡ L.Loggable.restored system.now (L.Loggable.numbers system.now state.now) }
-    ensures long { most < length (L.Loggable.numbers system.now state.now) → result.1 ≡ None }
     ensures room { (L.System.meaning system.now).fits state.now ≡ true → longest ≤ length buffer.old → result.0.0 ≡ 0 }
     ensures same { (L.System.meaning system.now).fits state.now ≡ true → result.0.0 ≡ 0 → result.1 ≡ Some state.now }
 {
-    let (number, length) = system.write(state, buffer);
-    if number != 0 {
-        return ((number, length), None);
-    }
-    ((number, length), decoded(system, buffer))
+    let answer = system.write(state, buffer);
+    (answer, decoded(system, buffer))
 }

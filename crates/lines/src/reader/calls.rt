@@ -81,14 +81,13 @@ impl<'a> LineReader<'a> {
         }
     }
 
-    // Reads a line, and passes what is not a line, which gives the tag LINE and no numbers. The place moves
-    // in both cases, so there is no answer beside the line: number 1 says that the place stays.
-    pub fn next_line(&mut self) -> Line
-        ensures hears { Hears self.old self.new (said result) }
+    // Reads a line, and passes what is not a line.
+    pub fn next_line(&mut self) -> ((u32, usize), Line)
+        ensures hears { Hears self.old self.new result.0 (said result.1) }
         ensures exact { LineExact }
     {
-        let ((number, _), line) = self.read();
+        let ((number, value), line) = self.read();
         self.skip_unless(number == 0);
-        line
+        ((number, value), line)
     }
 }

@@ -8,4 +8,4 @@ pub put-requires : goal.put-requires
 put-requires c = omega (arith, ap length c.name.ensures, length_letters c.args.tag)
 
 pub returns : goal.returns
-returns c = line_over _ c.args.numbers.now _ _ _ _ _ c.name.ensures c.put.ensures c.put-columns.ensures c.put-2.ensures
+returns c = line_over _ c.args.numbers.now _ _ _ _ _ c.name.ensures c.put.ensures c.put_columns.ensures c.put-2.ensures

@@ -6,7 +6,7 @@ use Rattle.lines.proofs.reader.LineReader.next_line.Goals as goal
 pub returns : goal.returns
 returns c =
     record {
-      hears = hears (eqb c.read-number.result.0.0 0) c.args.self.now c.read-number.new.self c.skip-unless.new.self _ _ _ refl
-          c.read-number.ensures.reads c.skip-unless.ensures.input c.skip-unless.ensures.place;
+      hears = hears (eqb c.read-number.result.0.0 0) c.args.self.now c.read-number.new.self c.skip_unless.new.self _ _ _ refl
+          c.read-number.ensures.reads c.skip_unless.ensures.input c.skip_unless.ensures.place;
       exact = line_exact;
     }

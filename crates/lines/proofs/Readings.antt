@@ -44,7 +44,7 @@ small_push (m ∷ ns) n h l =
     and_from (leb m largest) (small (ns ++ n ∷ [])) p.0 (small_push ns n p.1 l)
 
 -- no tag allows more than the most
-counts_few : (t : Tag) (n : ℕ) → counts t n ≡ true → n ≤ most
+pub counts_few : (t : Tag) (n : ℕ) → counts t n ≡ true → n ≤ most
 counts_few Plnt n h = omega (arith, eqb-true n 0 h)
 counts_few Chrt n h = omega (arith, eqb-true n 0 h)
 counts_few Inpt n h = omega (arith, eqb-true n 0 h)

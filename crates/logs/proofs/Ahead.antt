@@ -25,9 +25,9 @@ pieces_first (b ∷ bs) c cs e =
 not_end : (place len : ℕ) (r : Bool) → place ≤ len → (place ≡ len → r ≡ true) → r ≡ false → place < len
 not_end place len r w h f = let ne : place ≡ len → ⊥ = λ e. both_ways r f (h e) in omega (arith, ne)
 
-module _ {before after : LineReader} {line : Said} (h : Hears before after line) {at-end : Bool} (e : before.place ≡ length (input_of before) → at-end ≡ true) (f : at-end ≡ false) where
+module _ {before after : LineReader} {answer : ℕ × ℕ} {line : Said} (h : Hears before after answer line) {ended : Bool} (e : before.place ≡ length (input_of before) → ended ≡ true) (f : ended ≡ false) where
   inside : before.place < length (input_of before)
-  inside = not_end _ _ at-end before.within e f
+  inside = not_end _ _ ended before.within e f
 
   pub ahead_more : lines_ahead before ≡ line ∷ lines_ahead after
   ahead_more =
@@ -70,5 +70,5 @@ pub few_heard : (p : List ℕ) → Few (line_of p)
 unfolding line_of
 few_heard p = few_tagged p (tag_of (take tag_length p) tags)
 
-pub heard_few : {before after : LineReader} {line : Said} → Hears before after line → length line.1 ≤ most
+pub heard_few : {before after : LineReader} {answer : ℕ × ℕ} {line : Said} → Hears before after answer line → length line.1 ≤ most
 heard_few {before} h = subst (λ (l : Said). length l.1 ≤ most) (sym h.said_so) (few_heard (piece (ahead before)))

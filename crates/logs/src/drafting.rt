@@ -112,7 +112,7 @@ pub(crate) fn draft_lines<D: Drafting>(
     draft: &mut D,
     out: &mut Vec<u8>,
 ) -> Result<bool, AllocError>
-    ensures { IfOk result (λ ready. (cells : Memory) → out.new.items ++ spelled (if ready then answers cells (fixed cells (turn draft.new)) (lines_ahead reader.new) else []) ≡ out.old.items ++ spelled (answers cells (turn draft.old) (lines_ahead reader.old))) }
+    ensures { IfOk result (λ ready. (cells : Memory) → out.new.items ++ spelled (if ready then answers cells (fixed cells (D.turn draft.new)) (lines_ahead reader.new) else []) ≡ out.old.items ++ spelled (answers cells (D.turn draft.old) (lines_ahead reader.old))) }
 {
     while !reader.at_end() {
         let (_, line) = reader.next_line();

@@ -8,20 +8,20 @@ use Rattle.logs.proofs.drafting.draft_lines.Goals as goal
 
 pub loop-reader-smaller : goal.loop-reader-smaller
 loop-reader-smaller g c =
-    ahead_less c.next_line-line.ensures.hears c.at_end.ensures.1 c.loop-reader-test.true
+    ahead_less c.next_line.ensures.hears c.at_end.ensures.1 c.loop-reader-test.true
 
 pub returns-then-fixes : goal.returns-then-fixes
 returns-then-fixes g c = λ cells.
     let turn = g.D.Drafting.turn in
     draft_last cells (turn c.loop-reader.draft) (vec_items c.loop-reader.out)
-    (ahead_more c.next_line-line.ensures.hears c.at_end.ensures.1 c.loop-reader-test.true) c.tag-tag.ensures c.numbers.ensures (c.in_ok-note.ensures ∙ ap (λ a. vec_items c.loop-reader.out ++ line_spelled a) c.enter-number.ensures.answer) c.enter-number.ensures.after (sym c.if-fixes.ensures)
+    (ahead_more c.next_line.ensures.hears c.at_end.ensures.1 c.loop-reader-test.true) c.tag-tag.ensures c.numbers.ensures (c.in_ok-note.ensures ∙ ap (λ a. vec_items c.loop-reader.out ++ line_spelled a) c.enter-number.ensures.answer) c.enter-number.ensures.after (sym c.if-fixes.ensures)
     ∙ c.loop-reader.invariant cells
 
 pub loop-reader-preserved : goal.loop-reader-preserved
 loop-reader-preserved g c = λ cells.
     let turn = g.D.Drafting.turn in
     draft_more cells (turn c.loop-reader.draft) (vec_items c.loop-reader.out)
-    (ahead_more c.next_line-line.ensures.hears c.at_end.ensures.1 c.loop-reader-test.true) c.tag-tag.ensures c.numbers.ensures (c.in_ok-note.ensures ∙ ap (λ a. vec_items c.loop-reader.out ++ line_spelled a) c.enter-number.ensures.answer) c.enter-number.ensures.after (sym c.if-fixes.ensures)
+    (ahead_more c.next_line.ensures.hears c.at_end.ensures.1 c.loop-reader-test.true) c.tag-tag.ensures c.numbers.ensures (c.in_ok-note.ensures ∙ ap (λ a. vec_items c.loop-reader.out ++ line_spelled a) c.enter-number.ensures.answer) c.enter-number.ensures.after (sym c.if-fixes.ensures)
     ∙ c.loop-reader.invariant cells
 
 pub returns : goal.returns

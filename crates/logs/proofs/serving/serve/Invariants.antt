@@ -9,7 +9,7 @@ use Rattle.logs.proofs.serving.serve.Given as goal
 
 abbrev pub invariant-loop-reader : goal.invariant-loop-reader
 invariant-loop-reader g l =
-    let v = logged g.Y.System g.Y.Loggable l.system in
+    let v = logged g.Y.System.meaning g.Y.Loggable.numbers g.Y.Loggable.restored l.system in
     (system_of g.Y.System.meaning l.session ≡ g.Y.System.meaning l.system)
     × HasPast g.Y.System.meaning l.session
     × (vec_items l.out ++ spelled (served v (table_of l.session) (lines_ahead l.reader))

@@ -24,7 +24,7 @@ note_state-requires g c =
 
 pub note-requires : goal.note-requires
 note-requires g c =
-    let v = logged g.Y.System g.Y.Loggable c.args.system.now in
+    let v = logged g.Y.System.meaning g.Y.Loggable.numbers g.Y.Loggable.restored c.args.system.now in
     let t = table_of c.args.session.now in
     let few : length c.numbers-numbers.result.now ≤ most = subst (λ ns. length ns ≤ most) (sym c.numbers-numbers.ensures) c.requires.few in
     let narrow : Narrow c.reply-number.result = subst Narrow (sym c.reply-number.ensures.answer) (reply_small v t (omega (arith, c.args.session.now.within)) c.requires.choices c.tag-tag.result c.numbers-numbers.result.now few) in
@@ -32,7 +32,7 @@ note-requires g c =
 
 pub returns : goal.returns
 returns g c =
-    let v = logged g.Y.System g.Y.Loggable c.args.system.now in
+    let v = logged g.Y.System.meaning g.Y.Loggable.numbers g.Y.Loggable.restored c.args.system.now in
     let t = table_of c.args.session.now in
     let e = c.reply-number.ensures in
     let tag = c.tag-tag.result in

@@ -212,7 +212,7 @@ module _ (order : Order) (l : Layout) (c : ℕ) (s s' : PlantState) (v : Valid l
 -- both ways, for any two replies that are the meaning's
 pub by_rules : (order : Order) (l : Layout) (c : ℕ) (s : PlantState) → Valid l → (legal : Bool) (next : PlantState)
     → legal ≡ (plant_meaning order l).legal s c → next ≡ (plant_meaning order l).next s c → ByRules order l c s legal next
-by_rules order l c s v legal next e d = record {
+by_rules order l c s v legal _ e d = record {
   legal_ticks = λ h. subst (Tick order l c s) (sym d) (ticks order l c s v (sym e ∙ h));
   tick_legal = λ s' t. (e ∙ tick_legal order l c s s' v t, tick_next order l c s s' v t ∙ sym d);
 }

@@ -47,13 +47,13 @@ rec phase since run waited = record { phase = phase; since = since; run = run; w
 
 -- four zeros
 abbrev pub blank : Record
-blank = rec Before 0 0 0
+blank = record { phase = Before; since = 0; run = 0; waited = 0 }
 
 abbrev pub first_state : PlantState
 first_state = record { records = replicate most_tasks blank }
 
 abbrev pub released : Record
-released = rec Held 0 0 0
+released = record { phase = Held; since = 0; run = 0; waited = 0 }
 
 abbrev pub readied : Record → Record
 readied r = record { phase = Ready; since = r.since; run = r.run; waited = r.waited }

@@ -1,19 +1,18 @@
 -- Eight worked schedules, as a list, and the one test that they all pass.
-use Rattle.std.specs.Prelude.{ℕ, ◌-◌, Bool, true, false, ◌&&◌, List, [], ◌∷◌, ◌++◌, length, replicate, fold, filter, ◌==◌}
-use Rattle.std.specs.Bool.{beq}
+use Rattle.std.specs.Prelude.{ℕ, ◌-◌, Bool, true, false, cond, ◌&&◌, List, [], ◌∷◌, ◌++◌, length, replicate, ◌==◌}
 use Rattle.std.specs.List.{range_with_len}
-use Rattle.std.specs.Str.{bytes_eq as same_numbers}
 use Rattle.policies.specs.Orders.{site}
 use Rattle.systems.specs.Systems.{Meaning, led}
 use Rattle.plants.specs.Limits.{most_tasks}
 use Rattle.plants.specs.Layouts.{nothing}
 use Rattle.plants.specs.Entries.{after_resource, after_task}
-use Rattle.plants.specs.Records.{rec, blank}
+use Rattle.plants.specs.Records.{blank}
 use Rattle.plants.specs.Meanings.{plant_meaning}
 use Rattle.plants.specs.declared.layout.TaskEntry.{TaskEntry}
 use Rattle.plants.specs.declared.layout.Layout.{Layout}
 use Rattle.plants.specs.declared.state.Record.{Record}
 use Rattle.plants.specs.declared.state.PlantState.{PlantState}
+use Rattle.plants.specs.declared.state.Phase.{Phase}
 use Rattle.plants.specs.declared.state.Phase.TheVariants.{Done, Ready}
 
 -- Plants and states
@@ -36,9 +35,17 @@ pub record Plan : Type 0 where
   pub resources : List (ℕ × ℕ)
   pub tasks : List TaskEntry
 
+abbrev with_resources : Layout → List (ℕ × ℕ) → Layout
+with_resources l [] = l
+with_resources l (r ∷ rs) = with_resources (after_resource l r.0 r.1) rs
+
+abbrev with_tasks : Layout → List TaskEntry → Layout
+with_tasks l [] = l
+with_tasks l (t ∷ ts) = with_tasks (after_task l t) ts
+
 -- what a draft holds after these entries
 abbrev layout_of : Plan → Layout
-layout_of p = fold after_task (fold (λ l r. after_resource l r.0 r.1) nothing p.resources) p.tasks
+layout_of p = with_tasks (with_resources nothing p.resources) p.tasks
 
 -- no entry was refused
 abbrev all_entered : Plan → Bool
@@ -47,6 +54,9 @@ all_entered p = (layout_of p).resource_count == length p.resources && (layout_of
 -- the plant as a system, under the site's policy
 abbrev system_of : Plan → Meaning PlantState
 system_of p = plant_meaning site (layout_of p)
+
+abbrev is : Phase → ℕ → ℕ → ℕ → Record
+is phase since run waited = record { phase = phase; since = since; run = run; waited = waited }
 
 abbrev state : List Record → PlantState
 state rs = record { records = rs ++ replicate (most_tasks - length rs) blank }
@@ -63,17 +73,30 @@ pub data Says : Type 0 where
   -- the state fits and is bad
   fits_bad : Says
 
+abbrev same_numbers : List ℕ → List ℕ → Bool
+same_numbers [] [] = true
+same_numbers [] (y ∷ ys) = false
+same_numbers (x ∷ xs) [] = false
+same_numbers (x ∷ xs) (y ∷ ys) = x == y && same_numbers xs ys
+
+abbrev kept : (ℕ → Bool) → List ℕ → List ℕ
+kept p [] = []
+kept p (x ∷ xs) = cond (p x) (x ∷ kept p xs) (kept p xs)
+
 -- the legal ones of all the choices, in rising order
 abbrev legals : Meaning PlantState → PlantState → List ℕ
-legals m s = filter (m.legal s) (range_with_len 0 m.count)
+legals m s = kept (m.legal s) (range_with_len 0 m.count)
 
 abbrev all_legal : Meaning PlantState → PlantState → List ℕ → Bool
 all_legal m s [] = true
 all_legal m s (c ∷ cs) = m.legal s c && all_legal m (m.next s c) cs
 
+abbrev same_flag : Bool → Bool → Bool
+same_flag a b = cond a b (cond b false true)
+
 abbrev holds : Meaning PlantState → PlantState → Says → Bool
 holds m s (only cs) = same_numbers (legals m s) cs
-holds m s (leads cs rs b) = all_legal m s cs && m.same (led m s cs) (state rs) && beq (m.bad (led m s cs)) b
+holds m s (leads cs rs b) = all_legal m s cs && m.same (led m s cs) (state rs) && same_flag (m.bad (led m s cs)) b
 holds m s (then_only ds cs) = all_legal m s ds && same_numbers (legals m (led m s ds)) cs
 holds m s fits_bad = m.fits s && m.bad s
 
@@ -100,28 +123,29 @@ one t = record { resources = (1, 1) ∷ []; tasks = t ∷ [] }
 abbrev two : ℕ → ℕ → TaskEntry → TaskEntry → Plan
 two policy preempt t u = record { resources = (policy, preempt) ∷ []; tasks = t ∷ u ∷ [] }
 
--- a task of one tick, and one of two
-abbrev short : Plan
-short = one (task 0 2 2 1 1 2 0 0 0)
+-- a task of one tick
+abbrev plan_1 : Plan
+plan_1 = one (task 0 2 2 1 1 2 0 0 0)
 
-abbrev long : Plan
-long = one (task 0 2 2 2 2 2 0 0 0)
+-- a task of two ticks
+abbrev plan_2 : Plan
+plan_2 = one (task 0 2 2 2 2 2 0 0 0)
 
 -- the greatest gap is one tick above the least
-abbrev loose : Plan
-loose = one (task 0 2 3 1 1 2 0 0 0)
+abbrev plan_4 : Plan
+plan_4 = one (task 0 2 3 1 1 2 0 0 0)
 
 -- two tasks that differ only in their class, the second having the higher priority
-abbrev rivals : ℕ → Plan
-rivals policy = two policy 1 (task 0 4 4 1 1 4 1 0 0) (task 0 4 4 1 1 4 0 0 0)
+abbrev plan_5 : ℕ → Plan
+plan_5 policy = two policy 1 (task 0 4 4 1 1 4 1 0 0) (task 0 4 4 1 1 4 0 0 0)
 
 -- a task of higher priority comes one tick after a long one
-abbrev latecomer : ℕ → Plan
-latecomer preempt = two 1 preempt (task 0 9 9 3 3 9 1 0 0) (task 1 9 9 1 1 9 0 0 0)
+abbrev plan_7 : ℕ → Plan
+plan_7 preempt = two 1 preempt (task 0 9 9 3 3 9 1 0 0) (task 1 9 9 1 1 9 0 0 0)
 
 -- the second task needs the first, which is on another resource
-abbrev needing : Plan
-needing = record { resources = (1, 1) ∷ (1, 1) ∷ []; tasks = task 0 4 4 1 1 4 0 0 0 ∷ task 0 4 4 1 1 4 0 1 1 ∷ [] }
+abbrev plan_8 : Plan
+plan_8 = record { resources = (1, 1) ∷ (1, 1) ∷ []; tasks = task 0 4 4 1 1 4 0 0 0 ∷ task 0 4 4 1 1 4 0 1 1 ∷ [] }
 
 -- In turn:
 -- 1. a task of one tick must be released and finish in the first, which leaves it done since one tick;
@@ -134,15 +158,15 @@ needing = record { resources = (1, 1) ∷ (1, 1) ∷ []; tasks = task 0 4 4 1 1 
 -- 8. a task that needs another waits for it, and runs in the tick after.
 abbrev pub schedules : List Schedule
 schedules =
-    on short [] (only (3 ∷ []))
-    ∷ on short [] (leads (3 ∷ []) (rec Done 1 0 0 ∷ []) false)
-    ∷ on long [] (leads (1 ∷ 2 ∷ []) (rec Done 2 0 0 ∷ []) false)
-    ∷ on long (rec Ready 2 1 1 ∷ []) fits_bad
-    ∷ on loose (rec Done 2 0 0 ∷ []) (only (0 ∷ 3 ∷ []))
-    ∷ on (rivals 1) [] (only (11 ∷ []))
-    ∷ on (rivals 0) [] (only (7 ∷ []))
-    ∷ on (rivals 2) [] (only (7 ∷ []))
-    ∷ on (latecomer 1) [] (then_only (1 ∷ []) (10 ∷ []))
-    ∷ on (latecomer 0) [] (then_only (1 ∷ []) (2 ∷ []))
-    ∷ on needing [] (leads (7 ∷ 8 ∷ []) (rec Done 2 0 0 ∷ rec Done 2 0 0 ∷ []) false)
+    on plan_1 [] (only (3 ∷ []))
+    ∷ on plan_1 [] (leads (3 ∷ []) (is Done 1 0 0 ∷ []) false)
+    ∷ on plan_2 [] (leads (1 ∷ 2 ∷ []) (is Done 2 0 0 ∷ []) false)
+    ∷ on plan_2 (is Ready 2 1 1 ∷ []) fits_bad
+    ∷ on plan_4 (is Done 2 0 0 ∷ []) (only (0 ∷ 3 ∷ []))
+    ∷ on (plan_5 1) [] (only (11 ∷ []))
+    ∷ on (plan_5 0) [] (only (7 ∷ []))
+    ∷ on (plan_5 2) [] (only (7 ∷ []))
+    ∷ on (plan_7 1) [] (then_only (1 ∷ []) (10 ∷ []))
+    ∷ on (plan_7 0) [] (then_only (1 ∷ []) (2 ∷ []))
+    ∷ on plan_8 [] (leads (7 ∷ 8 ∷ []) (is Done 2 0 0 ∷ is Done 2 0 0 ∷ []) false)
     ∷ []

@@ -68,7 +68,7 @@ impl DraftPlant {
     pub fn fix<P: Policy>(self, policy: P) -> Plant<P>
         ensures layout { result.layout ≡ self.layout }
         ensures policy { result.policy ≡ policy }
-        ensures runs { (choices : List ℕ) → RunsChain (order result.policy) result.layout choices }
+        ensures runs { (choices : List ℕ) → RunsChain (P.order result.policy) result.layout choices }
     {
         fixed(self, policy)
     }

@@ -21,7 +21,7 @@ fn runs_on<P: Policy>(
     i: usize,
 ) -> bool
     requires { (i < most_tasks) × ((layout.now.count ≤ most_tasks) × ((task_at layout.now i).resource < most_resources)) }
-    ensures { result ≡ runs_on (order policy.now) layout.now state.now.records resource i }
+    ensures { result ≡ runs_on (P.order policy.now) layout.now state.now.records resource i }
 {
     layout.tasks[i].resource == resource && runs(policy, layout, state, i)
 }
@@ -34,7 +34,7 @@ fn first_running<P: Policy>(
     resource: u32,
 ) -> Option<usize>
     requires { layout_valid layout.now ≡ true }
-    ensures { Finds (runs_on (order policy.now) layout.now state.now.records resource) layout.now.count result }
+    ensures { Finds (runs_on (P.order policy.now) layout.now state.now.records resource) layout.now.count result }
 {
     for i in 0..layout.count {
         if runs_on(policy, layout, state, resource, i) {
@@ -54,7 +54,7 @@ impl<P: Policy> Plant<P> {
 
     // The task that runs on a resource in the tick by a choice: the one such ready task, and none where no task on it is ready.
     pub fn running(&self, state: &PlantState, choice: u32, resource: u32) -> Option<usize>
-        ensures { NamesRunning (order self.now.policy) self.now.layout (claiming_state self.now.layout choice state.now) resource result }
+        ensures { NamesRunning (P.order self.now.policy) self.now.layout (claiming_state self.now.layout choice state.now) resource result }
     {
         let claims = claiming(&self.layout, *state, choice);
         first_running(&self.policy, &self.layout, &claims, resource)

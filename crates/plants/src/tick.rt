@@ -154,7 +154,7 @@ fn goes_before<P: Policy>(
     j: usize,
 ) -> bool
     requires { (i < most_tasks) × ((j < most_tasks) × ((task_at layout.now i).resource < most_resources)) }
-    ensures { result ≡ goes_before (order policy.now) layout.now state.now.records i j }
+    ensures { result ≡ goes_before (P.order policy.now) layout.now state.now.records i j }
 {
     let resource = layout.resources[layout.tasks[i].resource as usize];
     let mine = claim_of(layout, state, i);
@@ -165,7 +165,7 @@ fn goes_before<P: Policy>(
 // Whether task i goes before task j, or j is no rival.
 fn is_ahead<P: Policy>(policy: &P, layout: &Layout, state: &PlantState, i: usize, j: usize) -> bool
     requires { (i < most_tasks) × ((j < most_tasks) × ((task_at layout.now i).resource < most_resources)) }
-    ensures { result ≡ ahead_of (order policy.now) layout.now state.now.records i j }
+    ensures { result ≡ ahead_of (P.order policy.now) layout.now state.now.records i j }
 {
     !are_rivals(layout, state, i, j) || goes_before(policy, layout, state, i, j)
 }
@@ -173,7 +173,7 @@ fn is_ahead<P: Policy>(policy: &P, layout: &Layout, state: &PlantState, i: usize
 // Rule 3: whether task i runs.
 pub(crate) fn runs<P: Policy>(policy: &P, layout: &Layout, state: &PlantState, i: usize) -> bool
     requires { (i < most_tasks) × ((layout.now.count ≤ most_tasks) × ((task_at layout.now i).resource < most_resources)) }
-    ensures { result ≡ task_runs (order policy.now) layout.now state.now.records i }
+    ensures { result ≡ task_runs (P.order policy.now) layout.now state.now.records i }
 {
     if !state.records[i].phase.is_ready() {
         return false;
@@ -190,7 +190,7 @@ pub(crate) fn runs<P: Policy>(policy: &P, layout: &Layout, state: &PlantState, i
 fn after_growth<P: Policy>(policy: &P, layout: &Layout, state: PlantState) -> PlantState
     requires valid { layout_valid layout.now ≡ true }
     requires low { (k : ℕ) → k < layout.now.count → Low (at state.records k) }
-    ensures { result.records ≡ after_growth (order policy.now) layout.now state.records }
+    ensures { result.records ≡ after_growth (P.order policy.now) layout.now state.records }
 {
     let mut out = state;
     for i in 0..layout.count {
@@ -223,7 +223,7 @@ fn finish_obeys<P: Policy>(
     requires within { i < most_tasks }
     requires placed { (task_at layout.now i).resource < most_resources }
     requires low { Low (at state.now.records i) }
-    ensures { result ≡ finish_obeys (order policy.now) layout.now choice state.now.records i }
+    ensures { result ≡ finish_obeys (P.order policy.now) layout.now choice state.now.records i }
 {
     let finished = has_bit(choice, layout.count + i);
     let run = state.records[i].run + 1;
@@ -248,7 +248,7 @@ pub(crate) fn finishes_obey<P: Policy>(
 ) -> bool
     requires valid { layout_valid layout.now ≡ true }
     requires low { (k : ℕ) → k < layout.now.count → Low (at state.now.records k) }
-    ensures { result ≡ all_below (finish_obeys (order policy.now) layout.now choice state.now.records) layout.now.count }
+    ensures { result ≡ all_below (finish_obeys (P.order policy.now) layout.now choice state.now.records) layout.now.count }
 {
     for i in 0..layout.count {
         if !finish_obeys(policy, layout, state, choice, i) {
@@ -280,7 +280,7 @@ pub(crate) fn is_legal<P: Policy>(
     choice: u32,
 ) -> bool
     requires { layout_valid layout.now ≡ true }
-    ensures { result ≡ choice_legal (order policy.now) layout.now choice state.now.records }
+    ensures { result ≡ choice_legal (P.order policy.now) layout.now choice state.now.records }
 {
     if choice >= choices(layout) || !releases_obey(layout, state, choice) {
         return false;
@@ -298,7 +298,7 @@ pub(crate) fn next<P: Policy>(
     choice: u32,
 ) -> PlantState
     requires { layout_valid layout.now ≡ true }
-    ensures { result.records ≡ next_records (order policy.now) layout.now choice state.records }
+    ensures { result.records ≡ next_records (P.order policy.now) layout.now choice state.records }
 {
     if !is_legal(policy, layout, &state, choice) {
         return state;

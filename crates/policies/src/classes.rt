@@ -1,6 +1,6 @@
 // The priorities of the classes.
-ghost use Rattle.std.specs.Prelude.{◌≡◌, ◌<◌, slice_index};
-ghost use Rattle.policies.specs.Classes.{classes, priorities, priority_of, band, by_bands};
+ghost use Rattle.std.specs.Prelude.{◌≡◌};
+ghost use Rattle.policies.specs.Classes.{priority_of, by_bands};
 
 // How many classes there are; they are numbered from 0.
 pub const CLASSES: usize = 24;
@@ -10,13 +10,15 @@ const PRIORITIES: [u32; CLASSES] = [
     60, 55, 50, 45,
 ];
 
-// The entry of the table at a class.
-fn listed(class: u32) -> u32
-    requires { class < classes }
-    ensures entry { result ≡ slice_index priorities class }
-    ensures banded { result ≡ band class }
+// The entry of the table, if the class is one.
+fn listed(class: u32) -> Option<u32>
+    ensures { result ≡ priority_of class }
 {
-    PRIORITIES[class as usize]
+    if (class as usize) < CLASSES {
+        Some(PRIORITIES[class as usize])
+    } else {
+        None
+    }
 }
 
 // The priority of a class, and none for a number that is no class.
@@ -24,9 +26,5 @@ pub fn priority(class: u32) -> Option<u32>
     ensures listed { result ≡ priority_of class }
     ensures banded { result ≡ by_bands class }
 {
-    if (class as usize) < CLASSES {
-        Some(listed(class))
-    } else {
-        None
-    }
+    listed(class)
 }

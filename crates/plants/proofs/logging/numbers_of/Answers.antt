@@ -11,7 +11,7 @@ loop-k-preserved c =
     let xs = c.loop-k.numbers in
     let f = number_at c.args.state.now.records in (
       length-set xs c.loop-k.k _ ∙ c.loop-k.invariant.0,
-      λ k lt. ap (λ (v : ℕ). get_or (set xs c.loop-k.k v) k 0) c.number-at.ensures
+      λ k lt. ap (λ (v : ℕ). get_or (set xs c.loop-k.k v) k 0) c.number_at.ensures
           ∙ fill_by_more f xs c.loop-k.k 0 (omega (arith, c.loop-k.invariant.0)) c.loop-k.invariant.1 k lt,
     )
 

@@ -25,7 +25,7 @@ returns-then-run-layout g c =
     let rs = c.args.state.now.records in
     let i = c.args.i in
     let runs = task_runs (g.P.Policy.order c.args.policy.now) l rs i in
-    let bit_clear = sym c.has-bit-finished.ensures ∙ c.if-not-finished.true in
+    let bit_clear = sym c.has_bit-finished.ensures ∙ c.if-not-finished.true in
     sym (ap (finish_in (task_at l i) runs (grown_by runs (at rs i)).run) bit_clear ∙ not_worn (task_at l i) runs (at rs i) c.if-run-layout.true)
 
 pub returns : goal.returns
@@ -36,7 +36,7 @@ returns g c =
     let i = c.args.i in
     let runs = task_runs (g.P.Policy.order c.args.policy.now) l rs i in
     let finished = bit c.args.choice (l.count + i) in
-    c.may-finish.ensures
-    ∙ ap (λ b. finish_in (task_at l i) c.runs.result ((at rs i).run + 1) b) c.has-bit-finished.ensures
+    c.may_finish.ensures
+    ∙ ap (λ b. finish_in (task_at l i) c.runs.result ((at rs i).run + 1) b) c.has_bit-finished.ensures
     ∙ ap (λ b. finish_in (task_at l i) b ((at rs i).run + 1) finished) c.runs.ensures
     ∙ only_running (task_at l i) runs (at rs i) finished

@@ -7,12 +7,12 @@ use Rattle.plants.specs.EnteringLemmas.{resource_enters, enters_resource, exactl
 use Rattle.plants.specs.Entered.{valid_parts, resource_room, valid_with_resource}
 use Rattle.plants.proofs.draft.DraftPlant.add_resource.Goals as goal
 
-pub invariant-of-self : goal.invariant-of-self
-invariant-of-self c =
+pub invariant_of-self : goal.invariant_of-self
+invariant_of-self c =
     let l = c.args.self.now.layout in
     let v = valid_parts l c.args.self.now.valid in
     let room = resource_room l c.args.policy c.args.preempt v (ap accepts (sym c.in-Accepted.ensures)) in
-    (ap valid c.with-resource-self.ensures ∙ valid_with_resource l _ v room, tt)
+    record { valid = ap valid c.with_resource-self.ensures ∙ valid_with_resource l _ v room }
 
 pub returns : goal.returns
 returns c =

@@ -15,13 +15,13 @@ with_task-self-requires c =
     let ok = admitted l c.args.task (ap accepts (sym c.in-Accepted.ensures)) v.tasks_few in
     (ok.room, ok.class)
 
-pub invariant-of-self : goal.invariant-of-self
-invariant-of-self c =
+pub invariant_of-self : goal.invariant_of-self
+invariant_of-self c =
     let l = c.args.self.now.layout in
     let v = valid_parts l c.args.self.now.valid in
     let ok = admitted l c.args.task (ap accepts (sym c.in-Accepted.ensures)) in
     let long : length l.tasks ≡ most_tasks = search rules in
-    (ap valid c.with-task-self.ensures ∙ valid_with_task l c.args.task long v ok, tt)
+    record { valid = ap valid c.with_task-self.ensures ∙ valid_with_task l c.args.task long v ok }
 
 pub returns : goal.returns
 returns c =

@@ -8,7 +8,7 @@ pub returns : goal.returns
 returns g c =
     let p = c.args.self.now in
     let law = plant_numbered (g.P.Policy.order p.policy) p.layout (valid_parts p.layout p.valid) in
-    let w = c.write-records.ensures in
+    let w = c.write_records.ensures in
     record {
       answer = w.answer;
       after = w.after;

@@ -10,5 +10,5 @@ pub returns : goal.returns
 returns g c =
     let p = c.args.self.now in
     let order = g.P.Policy.order p.policy in
-    names_running order (g.met.P.Policy.lawful p.policy) p.layout (claiming_state p.layout c.args.choice c.args.state.now) c.args.resource c.first-running.result
-    (subst (λ rs. Finds (runs_on order p.layout rs c.args.resource) p.layout.count c.first-running.result) c.claiming-claims.ensures c.first-running.ensures)
+    names_running order (g.met.P.Policy.lawful p.policy) p.layout (claiming_state p.layout c.args.choice c.args.state.now) c.args.resource c.first_running.result
+    (subst (λ rs. Finds (runs_on order p.layout rs c.args.resource) p.layout.count c.first_running.result) c.claiming-claims.ensures c.first_running.ensures)

@@ -14,8 +14,6 @@ fn a_step(rt: HostRuntime) {
     let mut buffer = [0; 11];
     assert_eq!(rt; reread(&chart, &0, &mut buffer), ((0, 11), Some(0)));
     assert_eq!(rt; &buffer, b"OFFR     0\n");
-    // the state that stands in the buffer is not read beside a refused writing
-    assert_eq!(rt; reread(&chart, &1_000_000, &mut buffer), ((19, 0), None));
     assert_eq!(rt; chart.state_of(&[]), None);
     assert_eq!(rt; chart.state_of(&[7]), Some(7));
     assert_eq!(rt; chart.state_of(&[7, 7]), None);

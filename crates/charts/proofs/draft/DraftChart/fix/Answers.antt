@@ -3,4 +3,4 @@ use Rattle.charts.proofs.Followed.{follows_leads}
 use Rattle.charts.proofs.draft.DraftChart.fix.Goals as goal
 
 pub returns-clause-leads : goal.returns-clause-leads
-returns-clause-leads c = follows_leads c.args.self.entries
+returns-clause-leads c = follows_leads _

@@ -19,7 +19,7 @@ fn run(rt: &HostRuntime) -> anyhow::Result<()> {
     Ok(())
 }
 
-// An error goes to standard error, by its name, and the program ends with status 1.
+// An error goes to standard error, by its text, and the program ends with status 1.
 fn main(rt: HostRuntime) -> anyhow::Result<()> {
     run(&rt)
 }

@@ -7,15 +7,7 @@ use Rattle.std.proofs.lemmas.Bool.Decides.{nat_tests}
 use Rattle.systems.specs.Outcomes.{accepts}
 use Rattle.charts.specs.declared.entries.Step.{Step}
 use Rattle.charts.specs.declared.entries.Entries.{Entries}
-use Rattle.charts.specs.Entries.{most_steps, most_inputs, leading, no_step, step_at, lead_at, relead, add_step, with_step, set_lead, with_lead, Inside, Idle}
-
-pub record Valid (e : Entries) : Type 0 where
-  pub some_steps : 0 < e.steps
-  pub few_steps : e.steps ≤ most_steps
-  pub some_inputs : 0 < e.inputs
-  pub few_inputs : e.inputs ≤ most_inputs
-  pub inside : Inside e
-  pub idle : Idle e
+use Rattle.charts.specs.Entries.{most_steps, most_inputs, leading, no_step, step_at, lead_at, relead, add_step, with_step, set_lead, with_lead, Valid}
 
 -- the step written anew, and the others
 at_written : (e : Entries) (n : ℕ) (d : Step) → n < length e.table → get_or (set e.table n d) n no_step ≡ d

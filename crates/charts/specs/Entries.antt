@@ -1,8 +1,7 @@
 -- What may be entered into a draft chart, and what the draft then holds.
-use Rattle.std.specs.Prelude.{◌≡◌, ℕ, ◌+◌, ◌<◌, ◌≤◌, Bool, false, cond, [], replicate, ◌==◌, nat_le, nat_lt, slice_index, slice_index_or, slice_set}
-use Rattle.systems.specs.Outcomes.{accepts}
-use Rattle.systems.specs.declared.outcome.Outcome.{Outcome}
-use Rattle.systems.specs.declared.outcome.Outcome.TheVariants.{Accepted, FieldOutside, NoRoom}
+use Rattle.std.specs.Prelude.{◌≡◌, ℕ, ◌+◌, ◌<◌, ◌≤◌, Bool, false, cond, [], replicate, ◌==◌, nat_le, nat_lt, slice_index, slice_index_or, slice_set, Ok, Err}
+use Rattle.systems.specs.Outcomes.{Outcome, accepts}
+use Rattle.systems.specs.declared.outcome.Refusal.TheVariants.{FieldOutside, NoRoom}
 use Rattle.charts.specs.declared.entries.Step.{Step}
 use Rattle.charts.specs.declared.entries.Entries.{Entries}
 
@@ -35,7 +34,7 @@ begun = record { steps = 1; inputs = 1; table = replicate most_steps (leading fa
 -- a step
 abbrev pub add_step : Entries → ℕ → Outcome
 add_step e forbidden =
-    cond (nat_lt e.steps most_steps) (cond (nat_le forbidden 1) (Accepted e.steps) (FieldOutside 1)) NoRoom
+    cond (nat_lt e.steps most_steps) (cond (nat_le forbidden 1) (Ok e.steps) (Err (FieldOutside 1))) (Err NoRoom)
 
 abbrev pub with_step : Entries → ℕ → Entries
 with_step e forbidden =
@@ -45,7 +44,7 @@ with_step e forbidden =
 
 -- an input
 abbrev pub add_input : Entries → Outcome
-add_input e = cond (nat_lt e.inputs most_inputs) (Accepted e.inputs) NoRoom
+add_input e = cond (nat_lt e.inputs most_inputs) (Ok e.inputs) (Err NoRoom)
 
 abbrev pub with_input : Entries → Entries
 with_input e = cond (accepts (add_input e)) (record { steps = e.steps; inputs = e.inputs + 1; table = e.table }) e
@@ -54,8 +53,8 @@ with_input e = cond (accepts (add_input e)) (record { steps = e.steps; inputs = 
 abbrev pub set_lead : Entries → ℕ → ℕ → ℕ → Outcome
 set_lead e step input next =
     cond (nat_lt step e.steps)
-    (cond (nat_lt input e.inputs) (cond (nat_lt next e.steps) (Accepted 0) (FieldOutside 3)) (FieldOutside 2))
-    (FieldOutside 1)
+    (cond (nat_lt input e.inputs) (cond (nat_lt next e.steps) (Ok 0) (Err (FieldOutside 3))) (Err (FieldOutside 2)))
+    (Err (FieldOutside 1))
 
 abbrev pub relead : Step → ℕ → ℕ → Step
 relead s input next = record { forbidden = s.forbidden; leads = slice_set s.leads input next }
@@ -73,6 +72,15 @@ Inside e = (s i : ℕ) → (s < e.steps) × (i < most_inputs) → lead_at e s i 
 -- by an input that is not entered every step that is entered leads to itself
 abbrev pub Idle : Entries → Type 0
 Idle e = (s i : ℕ) → (s < e.steps) × (e.inputs ≤ i) × (i < most_inputs) → lead_at e s i ≡ s
+
+-- what holds of every draft and every chart: entries within the limits, leads inside, and idle inputs
+pub record Valid (e : Entries) : Type 0 where
+  pub some_steps : 0 < e.steps
+  pub few_steps : e.steps ≤ most_steps
+  pub some_inputs : 0 < e.inputs
+  pub few_inputs : e.inputs ≤ most_inputs
+  pub inside : Inside e
+  pub idle : Idle e
 
 -- after an accepted input, every step that is entered leads by it to itself
 abbrev pub Home : Entries → Entries → Type 0

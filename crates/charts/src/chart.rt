@@ -1,6 +1,5 @@
 // A fixed chart.
-ghost use Rattle.std.specs.Prelude.{◌<◌, ◌≤◌};
-ghost use Rattle.charts.specs.Entries.{most_steps, most_inputs, Inside};
+ghost use Rattle.charts.specs.Entries.{Valid};
 
 use crate::entries::Entries;
 
@@ -11,9 +10,5 @@ pub mod replies;
 #[derive(Drop)]
 pub struct Chart {
     pub(crate) entries: Entries,
-    ghost some_steps: { 0 < entries.steps },
-    ghost few_steps: { entries.steps ≤ most_steps },
-    ghost some_inputs: { 0 < entries.inputs },
-    ghost few_inputs: { entries.inputs ≤ most_inputs },
-    ghost inside: { Inside entries },
+    ghost valid: { Valid entries },
 }

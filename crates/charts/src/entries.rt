@@ -1,8 +1,8 @@
-// What has been entered into a chart, and what one more entry makes of it.
+// What has been entered into a chart.
 ghost use Rattle.std.specs.Prelude.{◌≡◌, ◌≤◌, length};
 ghost use Rattle.charts.specs.Entries.{most_steps, most_inputs, begun as first_entries, add_step as step_entry, with_step as step_added, add_input as input_entry, with_input as input_added, set_lead as lead_entry, with_lead as lead_added};
 
-use systems::outcome::Outcome;
+use systems::outcome::{Outcome, Refusal};
 
 // The most steps and inputs of a chart, those it begins with included.
 pub(crate) const MOST_STEPS: usize = 64;
@@ -40,57 +40,57 @@ impl Entries {
         }
     }
 
-    // One step more, from which every input leads to the step itself.
-    pub(crate) fn with_step(mut self, forbidden: u32) -> (Outcome, Entries)
-        ensures outcome { result.0 ≡ step_entry self forbidden }
-        ensures after { result.1 ≡ step_added self forbidden }
-        ensures sized { length self.table ≡ most_steps }
+    // Enters a step, from which every input leads to the step itself.
+    pub(crate) fn add_step(&mut self, forbidden: u32) -> Outcome
+        ensures outcome { result ≡ step_entry self.old forbidden }
+        ensures after { self.new ≡ step_added self.old forbidden }
+        ensures sized { length self.old.table ≡ most_steps }
     {
         let step = self.steps;
         if step >= MOST_STEPS {
-            return (Outcome::NoRoom, self);
+            return Err(Refusal::NoRoom);
         }
         if forbidden > 1 {
-            return (Outcome::FieldOutside(1), self);
+            return Err(Refusal::FieldOutside(1));
         }
         self.table[step] = Step {
             forbidden: forbidden == 1,
             leads: [step as u8; MOST_INPUTS],
         };
         self.steps = step + 1;
-        (Outcome::Accepted(step), self)
+        Ok(step)
     }
 
-    // One input more; every step leads by it to itself already.
-    pub(crate) fn with_input(mut self) -> (Outcome, Entries)
-        ensures outcome { result.0 ≡ input_entry self }
-        ensures after { result.1 ≡ input_added self }
+    // Enters an input; every step leads by it to itself already.
+    pub(crate) fn add_input(&mut self) -> Outcome
+        ensures outcome { result ≡ input_entry self.old }
+        ensures after { self.new ≡ input_added self.old }
     {
         let input = self.inputs;
         if input >= MOST_INPUTS {
-            return (Outcome::NoRoom, self);
+            return Err(Refusal::NoRoom);
         }
         self.inputs = input + 1;
-        (Outcome::Accepted(input), self)
+        Ok(input)
     }
 
-    // Another lead, from a step by an input.
-    pub(crate) fn with_lead(mut self, step: u32, input: u32, next: u32) -> (Outcome, Entries)
-        requires { (self.steps ≤ most_steps) × (self.inputs ≤ most_inputs) }
-        ensures outcome { result.0 ≡ lead_entry self step input next }
-        ensures after { result.1 ≡ lead_added self step input next }
-        ensures sized { length self.table ≡ most_steps }
+    // Sets the lead from a step by an input.
+    pub(crate) fn set_lead(&mut self, step: u32, input: u32, next: u32) -> Outcome
+        requires { (self.old.steps ≤ most_steps) × (self.old.inputs ≤ most_inputs) }
+        ensures outcome { result ≡ lead_entry self.old step input next }
+        ensures after { self.new ≡ lead_added self.old step input next }
+        ensures sized { length self.old.table ≡ most_steps }
     {
         if step as usize >= self.steps {
-            return (Outcome::FieldOutside(1), self);
+            return Err(Refusal::FieldOutside(1));
         }
         if input as usize >= self.inputs {
-            return (Outcome::FieldOutside(2), self);
+            return Err(Refusal::FieldOutside(2));
         }
         if next as usize >= self.steps {
-            return (Outcome::FieldOutside(3), self);
+            return Err(Refusal::FieldOutside(3));
         }
         self.table[step as usize].leads[input as usize] = next as u8;
-        (Outcome::Accepted(0), self)
+        Ok(0)
     }
 }

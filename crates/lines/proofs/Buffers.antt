@@ -1,90 +1,72 @@
 -- Bytes written one after another from the front of a buffer, until they spell a line.
-use Rattle.std.proofs.Common.{◌≡◌, ℕ, ◌+◌, ◌*◌, ◌<◌, ◌≤◌, true, cond, leb, List, [], ◌∷◌, ◌++◌, length, get_or, take, drop, sym, refl, ap, ◌∙◌, subst, append_assoc, arith, length-append}
-use Rattle.std.proofs.lemmas.List.{take_at, take_all, take-append-drop, drop_at, drop-drop, append-nil, length-take-le}
+use Rattle.std.proofs.Common.{◌≡◌, ℕ, ◌+◌, ◌*◌, ◌<◌, ◌≤◌, true, cond, leb, List, [], ◌∷◌, ◌++◌, length, get_or, take, drop, sym, refl, ap, ◌∙◌, append_assoc, arith, length-append, Ok, Err, set, suc, length-drop}
+use Rattle.std.proofs.lemmas.List.{take_at, take_all, drop_at, drop-drop, length-take-le, set_split}
 use borrow.Rule.Slice.PartMut.{put_mid}
 use Rattle.std.proofs.lemmas.Bool.{cond-true, cond_both, eq-eqb, le-leb}
-use Rattle.systems.specs.Outcomes.{answer_of, accepts}
-use Rattle.systems.specs.declared.outcome.Outcome.{Outcome}
-use Rattle.systems.specs.declared.outcome.Outcome.TheVariants.{Accepted, NumberTooLarge, BufferShort}
+use Rattle.systems.specs.Outcomes.{Outcome, answer_of, accepts}
+use Rattle.systems.specs.declared.outcome.Refusal.TheVariants.{NumberTooLarge, BufferShort}
 use Rattle.lines.specs.Spelling.{column, columns, small, spelling, letters, counts, tag_length, width, feed, Allowed, Begins}
 use Rattle.lines.specs.Writing.{over, writing, written, ReadsBack}
 use Rattle.lines.specs.declared.tag.Tag.{Tag}
 use Rattle.lines.proofs.Columns.{columns_more, length_columns}
 use Rattle.lines.proofs.Lines.{length_letters, same_line}
 
--- what one `put` leaves
-abbrev put_at : ℕ → List ℕ → List ℕ → List ℕ
-put_at at bs out = take at out ++ (bs ++ drop (at + length bs) out)
+-- one more column is written behind those of the numbers before
+pub column_written : (out ns : List ℕ) (i k : ℕ) → k ≡ width → width * i + width ≤ length out → i < length ns → take (width * i) out ≡ columns (take i ns) → take (width * (i + 1)) (put_mid (width * i) k out (column (get_or ns i 0))) ≡ columns (take (i + 1) ns)
+column_written out ns i k h l lt e =
+    let before = take (width * i) out in
+    let col = column (get_or ns i 0) in
+    let after = drop k (drop (width * i) out) in
+    let n : length (before ++ col) ≡ width * (i + 1) = omega (arith, length-append before col, length-take-le (width * i) out (omega arith)) in
+    ap (take (width * (i + 1))) (sym (append_assoc before col after)) ∙ take_at (before ++ col) after (width * (i + 1)) n
+    ∙ ap (λ x. x ++ col) e ∙ sym (columns_more ns i lt)
 
--- a part of a slice that was written
-pub part_written : (a n k : ℕ) (xs ys zs : List ℕ) → ys ≡ zs → k ≡ n → put_mid a k xs ys ≡ take a xs ++ (zs ++ drop (a + n) xs)
-part_written a n k xs ys zs e h =
-    ap (λ y. take a xs ++ (y ++ drop k (drop a xs))) e
-    ∙ ap (λ y. take a xs ++ (zs ++ y)) (ap (λ j. drop j (drop a xs)) h ∙ drop-drop n a xs)
+pub columns_written : (out ns : List ℕ) (i : ℕ) → length out ≡ width * length ns → length ns ≤ i → take (width * i) out ≡ columns (take i ns) → out ≡ columns ns
+columns_written out ns i h l e = sym (take_all (width * i) out (omega (arith, h))) ∙ e ∙ ap columns (take_all i ns l)
 
-drop_past : (p e : List ℕ) (n : ℕ) → drop (length p + n) (over p e) ≡ drop (length p + n) e
-drop_past p e n =
-    sym (drop-drop n (length p) (over p e)) ∙ ap (drop n) (drop_at p (drop (length p) e) (length p) refl)
-    ∙ drop-drop n (length p) e
+-- bytes written where those before them end
+over_part : (p e now bs : List ℕ) (at k : ℕ) → at ≡ length p → k ≡ length bs → now ≡ over p e → put_mid at k now bs ≡ over (p ++ bs) e
+over_part p e now bs at k l h w =
+    let rest = drop (length p) e in
+    let front : take at now ≡ p = ap (take at) w ∙ take_at p rest at (sym l) in
+    let behind : drop at now ≡ rest = ap (drop at) w ∙ drop_at p rest at (sym l) in
+    let n : length p + k ≡ length (p ++ bs) = omega (arith, h, length-append p bs) in
+    let left : drop k (drop at now) ≡ drop (length (p ++ bs)) e = ap (drop k) behind ∙ drop-drop k (length p) e ∙ ap (λ j. drop j e) n in
+    ap (λ x. x ++ (bs ++ drop k (drop at now))) front ∙ ap (λ x. p ++ (bs ++ x)) left ∙ sym (append_assoc p bs (drop (length (p ++ bs)) e))
 
--- bytes put where those written so far end
-over_more : (p e now after bs : List ℕ) (at : ℕ) → at ≡ length p → now ≡ over p e → after ≡ put_at at bs now → after ≡ over (p ++ bs) e
-over_more p e now after bs at l w q =
-    let t : take at now ≡ p = ap (take at) w ∙ take_at p (drop (length p) e) at (sym l) in
-    let d : drop (at + length bs) now ≡ drop (length (p ++ bs)) e =
-    ap (λ k. drop (k + length bs) now) l ∙ ap (drop (length p + length bs)) w ∙ drop_past p e (length bs)
-    ∙ ap (λ k. drop k e) (sym (length-append p bs)) in
-    q ∙ ap (λ x. x ++ (bs ++ drop (at + length bs) now)) t ∙ ap (λ x. p ++ (bs ++ x)) d ∙ sym (append_assoc p bs (drop (length (p ++ bs)) e))
-
--- a buffer into which columns have been written from a start on
-abbrev pub With : ℕ → List ℕ → List ℕ → List ℕ → Type 0
-With start ns e now = now ≡ over (take start e ++ columns ns) e
-
-pub with_none : (e : List ℕ) (start : ℕ) → start ≤ length e → With start [] e e
-with_none e start h =
-    let l : length (take start e ++ []) ≡ start = ap length (append-nil (take start e)) ∙ length-take-le start e h in
-    sym (ap (λ k. (take start e ++ []) ++ drop k e) l ∙ ap (λ x. x ++ drop start e) (append-nil (take start e)) ∙ take-append-drop start e)
-
-pub with_more : (e now after col ns : List ℕ) (start at i : ℕ) → start ≤ length e → i < length ns → at ≡ start + width * i → With start (take i ns) e now → col ≡ column (get_or ns i 0) → after ≡ put_at at col now → With start (take (i + 1) ns) e after
-with_more e now after col ns start at i hs hi ha w k q =
-    let l : at ≡ length (take start e ++ columns (take i ns)) =
-    omega (arith, length-append (take start e) (columns (take i ns)), length-take-le start e hs, length_columns (take i ns), length-take-le i ns (omega arith)) in
-    let same : (take start e ++ columns (take i ns)) ++ col ≡ take start e ++ columns (take (i + 1) ns) =
-    append_assoc (take start e) (columns (take i ns)) col
-    ∙ ap (λ x. take start e ++ x) (ap (λ x. columns (take i ns) ++ x) k ∙ sym (columns_more ns i hi)) in
-    subst (λ p. after ≡ over p e) same (over_more (take start e ++ columns (take i ns)) e now after col at l w q)
-
-pub with_all : (e now ns : List ℕ) (start i : ℕ) → start ≤ length e → length ns ≤ i → With start (take i ns) e now → now ≡ put_at start (columns ns) e
-with_all e now ns start i hs hi w =
-    let l : length (take start e ++ columns ns) ≡ start + length (columns ns) =
-    omega (arith, length-append (take start e) (columns ns), length-take-le start e hs) in
-    subst (λ xs. With start xs e now) (take_all i ns hi) w
-    ∙ ap (λ k. (take start e ++ columns ns) ++ drop k e) l
-    ∙ append_assoc (take start e) (columns ns) (drop (start + length (columns ns)) e)
+over_byte : (p e now : List ℕ) (b at : ℕ) → at ≡ length p → at < length now → now ≡ over p e → set now at b ≡ over (p ++ b ∷ []) e
+over_byte p e now b at l lt w =
+    let next : suc at ≡ at + 1 = omega arith in
+    set_split now at b lt ∙ ap (λ j. take at now ++ b ∷ drop j now) next ∙ ap (λ x. take at now ++ b ∷ x) (sym (drop-drop 1 at now))
+    ∙ over_part p e now (b ∷ []) at 1 l refl w
 
 -- letters, columns and line feed, one after another
-pub line_over : (t : Tag) (ns e name a b z : List ℕ) → name ≡ letters t → a ≡ put_at 0 name e → b ≡ put_at tag_length (columns ns) a → z ≡ put_at (tag_length + width * length ns) (feed ∷ []) b → z ≡ over (spelling t ns) e
-line_over t ns e name a b z n qa qb qz =
-    let h : length name ≡ tag_length = ap length n ∙ length_letters t in
-    let w1 = over_more [] e e a name 0 refl refl qa in
-    let w2 = over_more name e a b (columns ns) tag_length (sym h) w1 qb in
-    let w3 = over_more (name ++ columns ns) e b z (feed ∷ []) (tag_length + width * length ns) (omega (arith, length-append name (columns ns), length_columns ns)) w2 qz in
-    let same : (name ++ columns ns) ++ (feed ∷ []) ≡ spelling t ns = append_assoc name (columns ns) (feed ∷ []) ∙ ap (λ x. x ++ (columns ns ++ feed ∷ [])) n in
-    subst (λ p. z ≡ over p e) same w3
+pub line_over : (t : Tag) (ns e name cols : List ℕ) (k : ℕ) → name ≡ letters t → cols ≡ columns ns → k ≡ width * length ns → tag_length + width * length ns < length e → set (put_mid tag_length k (name ++ drop tag_length e) cols) (tag_length + width * length ns) feed ≡ over (spelling t ns) e
+line_over t ns e name cols k n c h lt =
+    let l : length name ≡ tag_length = ap length n ∙ length_letters t in
+    let m : length cols ≡ width * length ns = ap length c ∙ length_columns ns in
+    let both = name ++ cols in
+    let w : put_mid tag_length k (name ++ drop tag_length e) cols ≡ over both e =
+    over_part name e (name ++ drop tag_length e) cols tag_length k (sym l) (h ∙ sym m) (ap (λ j. name ++ drop j e) (sym l)) in
+    let end : tag_length + width * length ns ≡ length both = omega (arith, l, m, length-append name cols) in
+    let room : tag_length + width * length ns < length (put_mid tag_length k (name ++ drop tag_length e) cols) =
+    omega (arith, lt, end, ap length w, length-append both (drop (length both) e), length-drop (length both) e) in
+    let same : both ++ feed ∷ [] ≡ spelling t ns = append_assoc name cols (feed ∷ []) ∙ ap (λ x. x ++ (cols ++ feed ∷ [])) n ∙ ap (λ x. letters t ++ (x ++ feed ∷ [])) c in
+    over_byte both e _ feed _ end room w ∙ ap (λ p. over p e) same
 
 -- small numbers are written where there is room
-pub writing_accepted : (t : Tag) (ns : List ℕ) (room : ℕ) → small ns ≡ true → length (spelling t ns) ≤ room → writing t ns room ≡ Accepted (length (spelling t ns))
+pub writing_accepted : (t : Tag) (ns : List ℕ) (room : ℕ) → small ns ≡ true → length (spelling t ns) ≤ room → writing t ns room ≡ Ok (length (spelling t ns))
 writing_accepted t ns room s h =
     let needed = length (spelling t ns) in
-    cond-true (small ns) (cond (leb needed room) (Accepted needed) (BufferShort needed)) NumberTooLarge s
-    ∙ cond-true (leb needed room) (Accepted needed) (BufferShort needed) (le-leb needed room h)
+    cond-true (small ns) (cond (leb needed room) (Ok needed) (Err (BufferShort needed))) (Err NumberTooLarge) s
+    ∙ cond-true (leb needed room) (Ok needed) (Err (BufferShort needed)) (le-leb needed room h)
 
 -- only small numbers are written
 written_small : (t : Tag) (ns : List ℕ) (room : ℕ) → (answer_of (writing t ns room)).0 ≡ 0 → small ns ≡ true
 written_small t ns room =
     let needed = length (spelling t ns) in
     let P : Outcome → Type 0 = λ o. (answer_of o).0 ≡ 0 → small ns ≡ true in
-    cond_both (small ns) (cond (leb needed room) (Accepted needed) (BufferShort needed)) NumberTooLarge P (λ s _. s) (λ _ h. absurd (omega arith))
+    cond_both (small ns) (cond (leb needed room) (Ok needed) (Err (BufferShort needed))) (Err NumberTooLarge) P (λ s _. s) (λ _ h. absurd (omega arith))
 
 -- an accepted writing leaves the line at the front of the buffer
 module _ (t : Tag) (ns out after : List ℕ) (r : ℕ × ℕ) (a : r ≡ answer_of (writing t ns (length out))) (w : after ≡ written t ns out) (z : r.0 ≡ 0) where

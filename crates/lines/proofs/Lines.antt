@@ -6,24 +6,10 @@ use Rattle.std.proofs.lemmas.Bool.Decides.{nat_tests}
 use Rattle.lines.specs.Spelling.{letters, digit_or_space, column, columns, small, spelling, tag_length, width, largest, feed, OneSpelling}
 use Rattle.lines.specs.Reading.{worth, tags, tag_of}
 use Rattle.lines.specs.declared.tag.Tag.{Tag}
-use Rattle.lines.specs.declared.tag.Tag.TheVariants.{Plnt, Chrt, Inpt, Fixd, Verd, Step, Setl, Show, Rsrc, Lead, Task, Offr, Runs, Line}
 use Rattle.lines.proofs.Columns.{worth_column, length_columns}
 
 pub length_letters : (t : Tag) → length (letters t) ≡ tag_length
-length_letters Plnt = refl
-length_letters Chrt = refl
-length_letters Inpt = refl
-length_letters Fixd = refl
-length_letters Verd = refl
-length_letters Step = refl
-length_letters Setl = refl
-length_letters Show = refl
-length_letters Rsrc = refl
-length_letters Lead = refl
-length_letters Task = refl
-length_letters Offr = refl
-length_letters Runs = refl
-length_letters Line = refl
+length_letters t = grind arith
 
 pub length_spelling : (t : Tag) (ns : List ℕ) → length (spelling t ns) ≡ tag_length + width * length ns + 1
 length_spelling t ns =
@@ -35,20 +21,7 @@ spelling_then t ns rest = append_assoc (letters t) (columns ns ++ feed ∷ []) r
 
 -- no two tags have the same letters
 pub tag_again : (t : Tag) → tag_of (letters t) tags ≡ Some t
-tag_again Plnt = refl
-tag_again Chrt = refl
-tag_again Inpt = refl
-tag_again Fixd = refl
-tag_again Verd = refl
-tag_again Step = refl
-tag_again Setl = refl
-tag_again Show = refl
-tag_again Rsrc = refl
-tag_again Lead = refl
-tag_again Task = refl
-tag_again Offr = refl
-tag_again Runs = refl
-tag_again Line = refl
+tag_again t = grind arith
 
 pub same_tag : (t u : Tag) (xs ys : List ℕ) → letters t ++ xs ≡ letters u ++ ys → t ≡ u
 same_tag t u xs ys e =

@@ -1,34 +1,42 @@
 -- Pieces up to a line feed, and the lines that they are.
-use Rattle.std.proofs.Common.{◌≡◌, ℕ, ◌+◌, ◌-◌, ◌/◌, ◌<◌, ◌≤◌, Bool, true, false, cond, ◌&&◌, eqb, leb, List, [], ◌∷◌, ◌++◌, length, get_or, take, drop, Some, None, Option, sym, refl, ap, ◌∙◌, subst, arith}
-use Rattle.std.proofs.lemmas.List.{take_at, drop_at, drop_more, drop_all}
-use Rattle.std.proofs.lemmas.Bool.{and_parts, and_from, leb-true, cond-true, cond-false, cond_both, eqb-true, eqb-false, ne_eqb, eq-eqb}
+use Rattle.std.proofs.Common.{◌≡◌, ℕ, ◌+◌, ◌-◌, ◌/◌, ◌<◌, Bool, true, false, cond, ◌&&◌, eqb, leb, List, [], ◌∷◌, ◌++◌, length, take, drop, Some, None, Option, sym, refl, ap, ◌∙◌, subst, arith, min, not, ltb, is_some, length-append}
+use Rattle.std.proofs.lemmas.List.{take_at, drop_at}
+use Rattle.std.proofs.lemmas.Option.{cond_some, none-some}
+use Rattle.std.specs.List.{position, position_or_len}
+use Rattle.std.specs.Bool.{◌==◌}
+use Rattle.std.proofs.lemmas.Bool.{and_parts, and_from, leb-true, cond-true, cond-false, cond_both, ltb-true, ltb-false, ne_eqb}
 use Rattle.std.proofs.lemmas.Bool.Decides.{nat_tests}
 use Rattle.std.proofs.lemmas.Slice.Eq.{bytes_eq-Decides}
 use Rattle.std.specs.Str.{bytes_eq}
 use Rattle.lines.specs.Spelling.{letters, digit_or_space, column, columns, small, counts, spelling, tag_length, width, largest, feed, Allowed, Begins}
 use Rattle.systems.specs.Outcomes.{answer_of}
-use Rattle.systems.specs.declared.outcome.Outcome.TheVariants.{Accepted}
-use Rattle.lines.specs.Reading.{input_of, ahead, Reads, piece, past_piece, tags, tag_of, worth, worths, if_spelled, line_tagged, line_of, heard, hearing, Hears, LineExact}
+use Rattle.lines.specs.Parts.{LineFirst}
+use Rattle.lines.specs.Reading.{input_of, ahead, Reads, piece, past_piece, tags, tag_of, worth, worths, if_spelled, line_tagged, line_of, heard, hearing, LineExact}
 use Rattle.lines.specs.declared.reader.LineReader.{LineReader}
 use Rattle.lines.specs.declared.tag.Tag.{Tag}
-use Rattle.lines.specs.declared.tag.Tag.TheVariants.{Plnt, Chrt, Inpt, Fixd, Verd, Step, Setl, Show, Rsrc, Lead, Task, Offr, Runs, Line}
 use Rattle.lines.proofs.Columns.{worth_column}
-use Rattle.lines.proofs.Lines.{length_letters, length_spelling, spelling_then, tag_again}
+use Rattle.lines.proofs.Lines.{length_letters, length_spelling, spelling_then, tag_again, one_spelling}
 
--- the length of what is left of a piece: one byte more, a line feed, or nothing
-pub piece_more : (input : List ℕ) (at : ℕ) → at < length input → (get_or input at 0 ≡ feed → ⊥) → length (piece (drop at input)) ≡ 1 + length (piece (drop (at + 1) input))
-piece_more input at h b =
-    ap (λ x. length (piece x)) (drop_more input at 0 h)
-    ∙ ap length (cond-false (eqb (get_or input at 0) feed) (get_or input at 0 ∷ []) (get_or input at 0 ∷ piece (drop (at + 1) input)) (ne_eqb (get_or input at 0) feed b))
-    ∙ omega arith
+-- the first piece ends with the first line feed, or with the bytes
+piece_more : (found : Bool) (b : ℕ) (bs rest : List ℕ) (at : ℕ) → length rest ≡ min (at + 1) (length bs) → length (cond found (b ∷ []) (b ∷ rest)) ≡ min (cond (not found) (1 + at) 0 + 1) (length (b ∷ bs))
+piece_more found b bs rest at h = grind (arith, h)
 
-pub piece_feed : (input : List ℕ) (at : ℕ) → at < length input → get_or input at 0 ≡ feed → length (piece (drop at input)) ≡ 1
-piece_feed input at h b =
-    ap (λ x. length (piece x)) (drop_more input at 0 h)
-    ∙ ap length (cond-true (eqb (get_or input at 0) feed) (get_or input at 0 ∷ []) (get_or input at 0 ∷ piece (drop (at + 1) input)) (eq-eqb (get_or input at 0) feed b))
+length_piece : (bs : List ℕ) → length (piece bs) ≡ min (position_or_len (λ b. b == feed) bs + 1) (length bs)
+length_piece [] = refl
+length_piece (b ∷ bs) = piece_more (eqb b feed) b bs (piece bs) (position_or_len (λ x. x == feed) bs) (length_piece bs)
 
-pub piece_end : (input : List ℕ) (at : ℕ) → length input ≤ at → length (piece (drop at input)) ≡ 0
-piece_end input at h = ap (λ x. length (piece x)) (drop_all at input h)
+pub piece_to_feed : (bs : List ℕ) (at : ℕ) → position (λ b. b == feed) bs ≡ Some at → (length (piece bs) ≡ at + 1) × (at < length bs)
+piece_to_feed bs at e =
+    let q = cond_some (ltb (position_or_len (λ b. b == feed) bs) (length bs)) (position_or_len (λ b. b == feed) bs) at e in
+    let lt = ltb-true _ _ q.0 in
+    (omega (arith, lt, q.1, length_piece bs), omega (arith, lt, q.1))
+
+pub piece_whole : (bs : List ℕ) → position (λ b. b == feed) bs ≡ None → length (piece bs) ≡ length bs
+piece_whole bs e =
+    let at = position_or_len (λ b. b == feed) bs in
+    cond_both (ltb at (length bs)) (Some at) None (λ o. o ≡ None → length (piece bs) ≡ length bs)
+    (λ _ n. absurd (none-some at (sym n)))
+    (λ ge _. omega (arith, ltb-false at (length bs) ge, length_piece bs)) e
 
 -- bytes are their first piece and the rest
 piece_rest : (bs : List ℕ) → bs ≡ piece bs ++ drop (length (piece bs)) bs
@@ -57,20 +65,7 @@ past_columns (n ∷ ns) xs =
     ∙ ap (λ y. column n ++ y) (past_columns ns xs)
 
 past_letters : (t : Tag) (xs : List ℕ) → piece (letters t ++ xs) ≡ letters t ++ piece xs
-past_letters Plnt xs = refl
-past_letters Chrt xs = refl
-past_letters Inpt xs = refl
-past_letters Fixd xs = refl
-past_letters Verd xs = refl
-past_letters Step xs = refl
-past_letters Setl xs = refl
-past_letters Show xs = refl
-past_letters Rsrc xs = refl
-past_letters Lead xs = refl
-past_letters Task xs = refl
-past_letters Offr xs = refl
-past_letters Runs xs = refl
-past_letters Line xs = refl
+past_letters t xs = grind arith
 
 -- a line is the first piece of the bytes that begin with it
 piece_line : (bs : List ℕ) (t : Tag) (ns : List ℕ) → Begins bs t ns → piece bs ≡ spelling t ns
@@ -130,40 +125,33 @@ none_but : (o : Option (Tag × List ℕ)) → ((t : Tag) (ns : List ℕ) → o �
 none_but None h = refl
 none_but (Some x) h = absurd (h x.0 x.1 refl)
 
-line_none : (bs : List ℕ) → ((t : Tag) (ns : List ℕ) → Begins bs t ns → ⊥) → line_of (piece bs) ≡ None
+pub line_none : (bs : List ℕ) → ((t : Tag) (ns : List ℕ) → Begins bs t ns → ⊥) → line_of (piece bs) ≡ None
 line_none bs h = none_but (line_of (piece bs)) (λ t ns e. h t ns (line_begins bs t ns e))
 
 pub line_exact : LineExact
 line_exact bs t ns = (line_begins bs t ns, line_some bs t ns)
 
--- a line that was read is the next piece
-hears_line : (before mid after : LineReader) (answer : ℕ × ℕ) (t : Tag) (ns : List ℕ) → Reads before mid answer t ns → input_of after ≡ input_of mid → after.place ≡ mid.place → answer.0 ≡ 0 → Hears before after answer (t, ns)
-hears_line before mid after answer t ns r i p z =
-    let some = line_some (ahead before) t ns (r.accepted z) in
-    let past : mid.place ≡ past_piece before =
-    (r.passed z).1 ∙ ap (λ q. before.place + length q) (sym (piece_line (ahead before) t ns (r.accepted z))) in
-    record {
-      same_input = i ∙ r.same_input;
-      passed = p ∙ past;
-      answered = (r.passed z).0 ∙ ap (λ k. answer_of (Accepted k)) past ∙ ap (λ o. answer_of (hearing o (past_piece before))) (sym some);
-      said_so = ap heard (sym some);
-    }
+-- what is read at the front of the bytes ahead, and where it ends
+pub piece_first : (bs rest : List ℕ) (line : Tag × List ℕ) → LineFirst bs line.0 line.1 rest → (line_of (piece bs) ≡ Some line) × (length (piece bs) + length rest ≡ length bs)
+piece_first bs rest line f =
+    let b : Begins bs line.0 line.1 = (f.0, (rest, f.1)) in
+    (line_some bs line.0 line.1 b, omega (arith, ap length (piece_line bs line.0 line.1 b), ap length f.1, length-append (spelling line.0 line.1) rest))
 
--- where no line was read, the next piece is none
-hears_none : (before mid after : LineReader) (answer : ℕ × ℕ) (t : Tag) (ns : List ℕ) → Reads before mid answer t ns → input_of after ≡ input_of mid → after.place ≡ past_piece mid → (answer.0 ≡ 0 → ⊥) → Hears before after answer (t, ns)
-hears_none before mid after answer t ns r i p z =
-    let f = r.refused z in
-    let none = line_none (ahead before) (λ u ms b. z (r.complete u ms b).0) in
-    let past : past_piece mid ≡ past_piece before =
-    ap (λ k. k + length (piece (drop k (input_of mid)))) f.2 ∙ ap (λ bs. before.place + length (piece (drop before.place bs))) r.same_input in
+-- a reader that accepts the line of the next piece, or none
+pub reads : (before after : LineReader) (answer : ℕ × ℕ) (line : Tag × List ℕ) (o : Option (Tag × List ℕ)) → input_of after ≡ input_of before → o ≡ line_of (piece (ahead before)) → after.place ≡ cond (is_some o) (past_piece before) before.place → answer ≡ answer_of (hearing o after.place) → line ≡ heard o → Reads before after answer line.0 line.1
+reads before after answer line None i e p a h = record {
+  same_input = i;
+  accepted = λ z. absurd (omega (arith, ap (λ (r : ℕ × ℕ). r.0) a));
+  complete = λ u ms b. absurd (none-some (u, ms) (e ∙ line_some (ahead before) u ms b));
+  passed = λ z. absurd (omega (arith, ap (λ (r : ℕ × ℕ). r.0) a));
+  refused = λ _. (a, h, p);
+}
+reads before after answer line (Some x) i e p a h =
+    let b : Begins (ahead before) line.0 line.1 = line_begins (ahead before) line.0 line.1 (sym e ∙ ap Some (sym h)) in
     record {
-      same_input = i ∙ r.same_input;
-      passed = p ∙ past;
-      answered = f.0 ∙ ap (λ o. answer_of (hearing o (past_piece before))) (sym none);
-      said_so = f.1 ∙ ap heard (sym none);
+      same_input = i;
+      accepted = λ _. b;
+      complete = λ u ms c. let o = one_spelling (ahead before) line.0 u line.1 ms b c in (ap (λ (r : ℕ × ℕ). r.0) a, o.0, o.1);
+      passed = λ _. (a, p ∙ ap (λ q. before.place + length q) (piece_line (ahead before) line.0 line.1 b));
+      refused = λ z. absurd (z (ap (λ (r : ℕ × ℕ). r.0) a));
     }
-
--- a reader that passes the piece unless it accepted a line
-pub hears : (accepted : Bool) (before mid after : LineReader) (answer : ℕ × ℕ) (t : Tag) (ns : List ℕ) → eqb answer.0 0 ≡ accepted → Reads before mid answer t ns → input_of after ≡ input_of mid → after.place ≡ cond accepted mid.place (past_piece mid) → Hears before after answer (t, ns)
-hears true before mid after answer t ns e r i p = hears_line before mid after answer t ns r i p (eqb-true answer.0 0 e)
-hears false before mid after answer t ns e r i p = hears_none before mid after answer t ns r i p (eqb-false answer.0 0 e)

@@ -1,18 +1,12 @@
 -- What reading answers, and where it leaves the place.
-use Rattle.std.specs.Prelude.{◌≡◌, ℕ, zero, suc, ◌+◌, ◌-◌, ◌*◌, ◌/◌, cond, ◌&&◌, List, [], ◌∷◌, length, take, drop, Some, None, Option, ◌==◌, ◌≢◌}
+use Rattle.std.specs.Prelude.{◌≡◌, ℕ, zero, suc, ◌+◌, ◌-◌, ◌*◌, ◌/◌, cond, ◌&&◌, List, [], ◌∷◌, length, take, drop, Some, None, Option, find, fold, ◌==◌, ◌≢◌, Ok, Err}
 use Rattle.std.specs.Str.{bytes_eq}
-use Rattle.systems.specs.Outcomes.{answer_of}
-use Rattle.systems.specs.declared.outcome.Outcome.{Outcome}
-use Rattle.systems.specs.declared.outcome.Outcome.TheVariants.{Accepted, NotALine}
+use Rattle.systems.specs.Outcomes.{Outcome, answer_of}
+use Rattle.systems.specs.declared.outcome.Refusal.TheVariants.{NotALine}
 use Rattle.lines.specs.Spelling.{letters, spelling, counts, small, tag_length, width, feed, zero_digit, Begins}
-use Rattle.lines.specs.declared.line.Line.{Line as LineRead}
 use Rattle.lines.specs.declared.reader.LineReader.{LineReader}
 use Rattle.lines.specs.declared.tag.Tag.{Tag}
 use Rattle.lines.specs.declared.tag.Tag.TheVariants.{Plnt, Chrt, Inpt, Fixd, Verd, Step, Setl, Show, Rsrc, Lead, Task, Offr, Runs, Line}
-
--- what a line says: its tag and its numbers
-abbrev pub said : LineRead → Tag × List ℕ
-said x = (x.tag, take x.count x.numbers)
 
 -- what stands for bytes that are not a line
 abbrev pub no_line : Tag × List ℕ
@@ -30,8 +24,8 @@ pub record Reads (before after : LineReader) (answer : ℕ × ℕ) (t : Tag) (ns
   pub same_input : input_of after ≡ input_of before
   pub accepted : answer.0 ≡ 0 → Begins (ahead before) t ns
   pub complete : (u : Tag) (ms : List ℕ) → Begins (ahead before) u ms → (answer.0 ≡ 0) × (t ≡ u) × (ns ≡ ms)
-  pub passed : answer.0 ≡ 0 → (answer ≡ answer_of (Accepted after.place)) × (after.place ≡ before.place + length (spelling t ns))
-  pub refused : (answer.0 ≢ 0) → (answer ≡ answer_of NotALine) × ((t, ns) ≡ no_line) × (after.place ≡ before.place)
+  pub passed : answer.0 ≡ 0 → (answer ≡ answer_of (Ok after.place)) × (after.place ≡ before.place + length (spelling t ns))
+  pub refused : (answer.0 ≢ 0) → (answer ≡ answer_of (Err NotALine)) × ((t, ns) ≡ no_line) × (after.place ≡ before.place)
 
 -- the bytes up to the next line feed and with it, or all where there is none
 abbrev pub piece : List ℕ → List ℕ
@@ -48,16 +42,11 @@ tags = Plnt ∷ Chrt ∷ Inpt ∷ Fixd ∷ Verd ∷ Step ∷ Setl ∷ Show ∷ R
 
 -- the tag among these that has the letters
 abbrev pub tag_of : List ℕ → List Tag → Option Tag
-tag_of bs [] = None
-tag_of bs (t ∷ ts) = cond (bytes_eq bs (letters t)) (Some t) (tag_of bs ts)
+tag_of bs ts = find (λ t. bytes_eq bs (letters t)) ts
 
 -- what bytes are worth as digits; a space is worth nothing
-abbrev pub worth_after : ℕ → List ℕ → ℕ
-worth_after n [] = n
-worth_after n (b ∷ bs) = worth_after (n * 10 + (b - zero_digit)) bs
-
 abbrev pub worth : List ℕ → ℕ
-worth bs = worth_after 0 bs
+worth bs = fold (λ n b. n * 10 + (b - zero_digit)) 0 bs
 
 -- what each of so many columns is worth
 abbrev pub worths : ℕ → List ℕ → List ℕ
@@ -81,8 +70,8 @@ heard None = no_line
 heard (Some x) = x
 
 abbrev pub hearing : Option (Tag × List ℕ) → ℕ → Outcome
-hearing None end = NotALine
-hearing (Some x) end = Accepted end
+hearing None end = Err NotALine
+hearing (Some x) end = Ok end
 
 -- the line of the first piece is the line with which the bytes begin, if they begin with one
 abbrev pub LineExact : Type 0

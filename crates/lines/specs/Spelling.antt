@@ -1,5 +1,6 @@
 -- How a line is spelled: the letters of a tag, its numbers in columns, and a line feed.
-use Rattle.std.specs.Prelude.{◌≡◌, ℕ, zero, suc, ◌+◌, ◌-◌, ◌*◌, ◌/◌, ◌%◌, Bool, true, false, cond, ◌&&◌, List, [], ◌∷◌, ◌++◌, length, codes, ◌==◌, nat_le}
+use Rattle.std.specs.Prelude.{◌≡◌, ℕ, zero, suc, ◌+◌, ◌-◌, ◌*◌, ◌/◌, ◌%◌, Bool, true, false, cond, List, [], ◌∷◌, ◌++◌, length, codes, ◌==◌, nat_le}
+use Rattle.std.specs.List.{flat_map, list_all}
 use Rattle.lines.specs.declared.tag.Tag.{Tag}
 use Rattle.lines.specs.declared.tag.Tag.TheVariants.{Plnt, Chrt, Inpt, Fixd, Verd, Step, Setl, Show, Rsrc, Lead, Task, Offr, Runs, Line}
 
@@ -81,16 +82,14 @@ abbrev pub column : ℕ → List ℕ
 column n = justified (width - 1) (n / 10) ++ digit n ∷ []
 
 abbrev pub columns : List ℕ → List ℕ
-columns [] = []
-columns (n ∷ ns) = column n ++ columns ns
+columns ns = flat_map column ns
 
 abbrev pub spelling : Tag → List ℕ → List ℕ
 spelling t ns = letters t ++ (columns ns ++ feed ∷ [])
 
 -- no number is above the largest
 abbrev pub small : List ℕ → Bool
-small [] = true
-small (n ∷ ns) = nat_le n largest && small ns
+small ns = list_all (λ n. nat_le n largest) ns
 
 -- numbers that a tag allows
 abbrev pub Allowed : Tag → List ℕ → Type 0

@@ -1,14 +1,13 @@
 -- What writing answers, and what it leaves in the buffer.
-use Rattle.std.specs.Prelude.{◌≡◌, ℕ, Bool, cond, List, ◌++◌, length, drop, nat_le}
-use Rattle.systems.specs.Outcomes.{accepts}
-use Rattle.systems.specs.declared.outcome.Outcome.{Outcome}
-use Rattle.systems.specs.declared.outcome.Outcome.TheVariants.{Accepted, NumberTooLarge, BufferShort}
+use Rattle.std.specs.Prelude.{◌≡◌, ℕ, Bool, cond, List, ◌++◌, length, drop, nat_le, Ok, Err}
+use Rattle.systems.specs.Outcomes.{Outcome, accepts}
+use Rattle.systems.specs.declared.outcome.Refusal.TheVariants.{NumberTooLarge, BufferShort}
 use Rattle.lines.specs.Spelling.{spelling, small, Begins}
 use Rattle.lines.specs.declared.tag.Tag.{Tag}
 
 -- whether the numbers are small is tested first, then whether the buffer has the room needed
 abbrev pub fitted : Bool → ℕ → ℕ → Outcome
-fitted small-enough needed room = cond small-enough (cond (nat_le needed room) (Accepted needed) (BufferShort needed)) NumberTooLarge
+fitted small-enough needed room = cond small-enough (cond (nat_le needed room) (Ok needed) (Err (BufferShort needed))) (Err NumberTooLarge)
 
 -- the outcome of writing a line into a buffer with so much room
 abbrev pub writing : Tag → List ℕ → ℕ → Outcome

@@ -1,48 +1,41 @@
-// The parts of a line, passed one after another. Where a part is not there, the place may be left anywhere.
-ghost use Rattle.std.specs.Prelude.{◌≡◌, ℕ, ◌≤◌, List, length, drop, MatchOption};
-ghost use Rattle.lines.specs.Parts.{TagFirst, NumbersFirst};
-ghost use Rattle.lines.specs.Reading.{said};
+// The parts of a line at the front of bytes, each with the bytes after it.
+ghost use Rattle.std.specs.Prelude.{◌≡◌, ℕ, List, MatchOption};
+ghost use Rattle.lines.specs.Spelling.{Begins};
+ghost use Rattle.lines.specs.Parts.{TagFirst, NumbersFirst, LineFirst};
 
-use crate::column::pass_column;
-use crate::line::{Line, MOST};
+use crate::column::column_first;
+use crate::line::Line;
 use crate::tag::{LETTERS, Tag};
 
-// Passes the letters of a tag.
-pub(crate) fn pass_tag(input: &[u8], place: &mut usize) -> Option<Tag>
-    requires { place.old ≤ length input.now }
-    ensures { MatchOption result ((t : Tag) (rest : List ℕ) → TagFirst (drop place.old input.now) t rest → ⊥) (λ t. (place.new ≤ length input.now) × TagFirst (drop place.old input.now) t (drop place.new input.now)) }
+// The tag.
+fn tag_first(bytes: &[u8]) -> Option<(Tag, &[u8])>
+    ensures { MatchOption result ((t : Tag) (rest : List ℕ) → TagFirst bytes.now t rest → ⊥) (λ p. TagFirst bytes.now p.0 p.1.now) }
 {
-    if input.len() - *place < LETTERS {
-        return None;
-    }
-    let name = &input[*place..*place + LETTERS];
-    *place += LETTERS;
-    Tag::of(name)
+    let (name, rest) = bytes.split_first_chunk::<LETTERS>()?;
+    Some((Tag::of(name)?, rest))
 }
 
-// Passes the numbers of a tag and the line feed.
-pub(crate) fn pass_numbers(input: &[u8], place: &mut usize, tag: Tag) -> Option<Line>
-    requires { place.old ≤ length input.now }
-    ensures { MatchOption result ((ns rest : List ℕ) → NumbersFirst (drop place.old input.now) tag ns rest → ⊥) (λ x. (place.new ≤ length input.now) × ((said x).0 ≡ tag) × NumbersFirst (drop place.old input.now) tag (said x).1 (drop place.new input.now)) }
+// The numbers of a tag, in their line, and the line feed.
+fn numbers_first(tag: Tag, bytes: &[u8]) -> Option<(Line, &[u8])>
+    ensures { MatchOption result ((ns rest : List ℕ) → NumbersFirst bytes.now tag ns rest → ⊥) (λ p. (p.0.0 ≡ tag) × NumbersFirst bytes.now tag p.0.1 p.1.now) }
 {
-    let mut numbers = [0; MOST];
-    let mut count = 0;
-    while *place < input.len() && input[*place] != b'\n' {
-        if count == MOST {
+    let mut line = Line::new(tag);
+    let mut left = bytes;
+    while let Some((number, rest)) = column_first(left) {
+        if line.is_full() {
             return None;
         }
-        let Some(number) = pass_column(input, place) else {
-            return None;
-        };
-        numbers[count] = number;
-        count += 1;
+        line.push(number);
+        left = rest;
     }
-    if *place == input.len() {
-        return None;
-    }
-    if !tag.allows(count) {
-        return None;
-    }
-    *place += 1;
-    Some(Line::new(tag, numbers, count))
+    let rest = left.strip_prefix(b"\n")?;
+    tag.allows(line.numbers().len()).then_some((line, rest))
+}
+
+// The whole line.
+pub(crate) fn line_first(bytes: &[u8]) -> Option<(Line, &[u8])>
+    ensures { MatchOption result ((t : Tag) (ns : List ℕ) → Begins bytes.now t ns → ⊥) (λ p. LineFirst bytes.now p.0.0 p.0.1 p.1.now) }
+{
+    let (tag, rest) = tag_first(bytes)?;
+    numbers_first(tag, rest)
 }

@@ -1,7 +1,6 @@
 // Lines: reading them from bytes, writing them into a buffer, and systems whose states are lines.
 #![tactic(auto)]
 
-mod bytes;
 mod column;
 mod form;
 pub mod line;

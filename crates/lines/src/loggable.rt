@@ -3,12 +3,12 @@ ghost use Rattle.std.specs.Prelude.{◌≡◌, ℕ, ◌≤◌, true, List, lengt
 ghost use Rattle.systems.specs.Outcomes.{answer_of};
 ghost use Rattle.lines.specs.declared.tag.Tag.TheVariants.{Offr};
 ghost use Rattle.lines.specs.Spelling.{most, longest, Begins};
-ghost use Rattle.lines.specs.Reading.{said};
 ghost use Rattle.lines.specs.Writing.{writing, written};
 ghost use Rattle.lines.specs.Logging.{Numbered, StateLine};
 
 use crate::line::Line;
 use crate::reader::LineReader;
+use systems::outcome::Answer;
 use systems::system::System;
 
 pub trait Loggable: System {
@@ -18,7 +18,7 @@ pub trait Loggable: System {
     ghost restored: { Self → List ℕ → Maybe Self.State };
 
     // Writes a state as a line at the front of the buffer, and answers its length.
-    fn write(&self, state: &Self::State, out: &mut [u8]) -> (u32, usize)
+    fn write(&self, state: &Self::State, out: &mut [u8]) -> Answer
         ensures answer { result ≡ answer_of (writing Offr (numbers self.now state.now) (length out.old)) }
         ensures after { out.new ≡ written Offr (numbers self.now state.now) out.old }
         ensures back { (Self.System.meaning self.now).fits state.now ≡ true → result.0 ≡ 0 → StateLine (restored self.now) state.now out.new };
@@ -32,7 +32,7 @@ pub trait Loggable: System {
 
 // What the numbers of a line are restored to.
 fn state_in<L: Loggable>(system: &L, line: &Line) -> Option<L::State>
-    ensures { result ≡ L.Loggable.restored system.now (said line.now).1 }
+    ensures { result ≡ L.Loggable.restored system.now line.now.1 }
 {
     system.state_of(line.numbers())
 }
@@ -51,7 +51,7 @@ pub fn reread<L: Loggable>(
     system: &L,
     state: &L::State,
     buffer: &mut [u8],
-) -> ((u32, usize), Option<L::State>)
+) -> (Answer, Option<L::State>)
     ensures answer { result.0 ≡ answer_of (writing Offr (L.Loggable.numbers system.now state.now) (length buffer.old)) }
     ensures after { buffer.new ≡ written Offr (L.Loggable.numbers system.now state.now) buffer.old }
     ensures accepted { result.0.0 ≡ 0 → length (L.Loggable.numbers system.now state.now) ≤ most → result.1 ≡ L.Loggable.restored system.now (L.Loggable.numbers system.now state.now) }

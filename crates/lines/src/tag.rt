@@ -1,14 +1,14 @@
 // The tags of lines.
-ghost use Rattle.std.specs.Prelude.{◌≡◌, Decides, MatchOption, ◌≢◌};
+ghost use Rattle.std.specs.Prelude.{◌≡◌};
 ghost use Rattle.lines.specs.Spelling.{letters, counts};
+ghost use Rattle.lines.specs.Reading.{tags, tag_of};
 
-use crate::bytes::same;
 use crate::line::MOST;
 
 // How many letters a tag has.
 pub(crate) const LETTERS: usize = 4;
 
-#[derive(Clone, Copy)]
+#[derive(Clone, Copy, Debug, PartialEq, Eq)]
 pub enum Tag {
     Plnt,
     Chrt,
@@ -45,7 +45,7 @@ const TAGS: [Tag; 14] = [
 ];
 
 impl Tag {
-    // The letters that spell this tag.
+    // The letters that spell this tag; by a name, since `into` would not say that they are its letters.
     pub(crate) fn name(self) -> [u8; LETTERS]
         ensures { result ≡ letters self }
     {
@@ -82,22 +82,10 @@ impl Tag {
         }
     }
 
-    // Whether the bytes spell this tag.
-    fn is(self, name: &[u8]) -> bool
-        ensures { Decides result (name.now ≡ letters self) }
+    // The tag that the bytes spell; no `TryFrom`, whose error would say nothing.
+    pub(crate) fn of(name: &[u8; LETTERS]) -> Option<Tag>
+        ensures { result ≡ tag_of name.now tags }
     {
-        same(name, &self.name())
-    }
-
-    // The tag that the bytes spell.
-    pub(crate) fn of(name: &[u8]) -> Option<Tag>
-        ensures { MatchOption result ((t : Tag) → name.now ≢ letters t) (λ t. name.now ≡ letters t) }
-    {
-        for tag in TAGS {
-            if tag.is(name) {
-                return Some(tag);
-            }
-        }
-        None
+        TAGS.iter().copied().find(|tag| *name == tag.name())
     }
 }

@@ -2,6 +2,7 @@
 use crate::reader::LineReader;
 use crate::tag::Tag;
 use crate::write::write;
+use systems::outcome::Answer;
 
 const DAMAGED: [&[u8]; 22] = [
     // nothing, and an empty line
@@ -36,7 +37,7 @@ const DAMAGED: [&[u8]; 22] = [
 ];
 
 // What reading the bytes answers.
-fn answer(bytes: &[u8]) -> (u32, usize) {
+fn answer(bytes: &[u8]) -> Answer {
     let mut reader = LineReader::new(bytes);
     let (answer, _) = reader.read();
     answer

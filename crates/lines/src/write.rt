@@ -6,37 +6,24 @@ ghost use Rattle.lines.specs.Writing.{fitted, writing, written, over, ReadsBack}
 
 use crate::column::{COLUMN, LARGEST, column};
 use crate::tag::{LETTERS, Tag};
-use systems::outcome::Outcome;
+use systems::outcome::{Answer, Outcome, Refusal, answer};
 
 // Whether no number is above the largest.
 fn all_small(numbers: &[u32]) -> bool
     ensures { result ≡ small numbers.now }
 {
-    for number in numbers {
-        if *number > LARGEST {
-            return false;
-        }
-    }
-    true
+    numbers.iter().all(|number| *number <= LARGEST)
 }
 
-// Writes bytes at a place.
-fn put(out: &mut [u8], at: usize, bytes: &[u8])
-    requires { at + length bytes.now ≤ length out.old }
-    ensures { out.new ≡ take at out.old ++ (bytes.now ++ drop (at + length bytes.now) out.old) }
+// Writes the columns of numbers, which fill the buffer.
+fn put_columns(out: &mut [u8], numbers: &[u32])
+    requires { length out.old ≡ width * length numbers.now }
+    ensures { out.new ≡ columns numbers.now }
 {
-    out[at..at + bytes.len()].copy_from_slice(bytes);
-}
-
-// Writes the columns of numbers from a place on.
-fn put_columns(out: &mut [u8], start: usize, numbers: &[u32])
-    requires { start + width * length numbers.now ≤ length out.old }
-    ensures { out.new ≡ take start out.old ++ (columns numbers.now ++ drop (start + length (columns numbers.now)) out.old) }
-{
-    let mut at = start;
-    for number in numbers {
-        put(out, at, &column(*number));
-        at += COLUMN;
+    // by index: of what is written through `chunks_exact_mut` a proof knows the length alone
+    for (index, number) in numbers.iter().enumerate() {
+        let at = COLUMN * index;
+        out[at..at + COLUMN].copy_from_slice(&column(*number));
     }
 }
 
@@ -45,9 +32,10 @@ fn spell(tag: Tag, numbers: &[u32], out: &mut [u8])
     requires { tag_length + width * length numbers.now + 1 ≤ length out.old }
     ensures { out.new ≡ over (spelling tag numbers.now) out.old }
 {
-    put(out, 0, &tag.name());
-    put_columns(out, LETTERS, numbers);
-    put(out, LETTERS + COLUMN * numbers.len(), b"\n");
+    let end = LETTERS + COLUMN * numbers.len();
+    out[..LETTERS].copy_from_slice(&tag.name());
+    put_columns(&mut out[LETTERS..end], numbers);
+    out[end] = b'\n';
 }
 
 // Writes a line if its numbers are small and there is room.
@@ -56,21 +44,21 @@ fn write_line(tag: Tag, numbers: &[u32], out: &mut [u8]) -> Outcome
     ensures after { out.new ≡ (if accepts result then over (spelling tag numbers.now) out.old else out.old) }
 {
     if !all_small(numbers) {
-        return Outcome::NumberTooLarge;
+        return Err(Refusal::NumberTooLarge);
     }
     let needed = LETTERS + COLUMN * numbers.len() + 1;
     if needed > out.len() {
-        return Outcome::BufferShort(needed);
+        return Err(Refusal::BufferShort(needed));
     }
     spell(tag, numbers, out);
-    Outcome::Accepted(needed)
+    Ok(needed)
 }
 
 // Writes a line at the front of the buffer, and answers its length.
-pub fn write(tag: Tag, numbers: &[u32], out: &mut [u8]) -> (u32, usize)
+pub fn write(tag: Tag, numbers: &[u32], out: &mut [u8]) -> Answer
     ensures answer { result ≡ answer_of (writing tag numbers.now (length out.old)) }
     ensures after { out.new ≡ written tag numbers.now out.old }
     ensures back { Allowed tag numbers.now → result.0 ≡ 0 → ReadsBack tag numbers.now out.new }
 {
-    write_line(tag, numbers, out).answer()
+    answer(write_line(tag, numbers, out))
 }

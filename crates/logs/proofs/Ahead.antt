@@ -1,6 +1,6 @@
 -- The lines that a reader has ahead, taken one at a time; each has few numbers.
 use Rattle.std.proofs.Common.{◌≡◌, ℕ, ◌+◌, ◌-◌, ◌/◌, ◌<◌, ◌≤◌, Bool, true, false, cond, ◌&&◌, eqb, List, [], ◌∷◌, map, length, get_or, take, drop, Some, None, Option, sym, refl, ap, ◌∙◌, subst, arith, lit≤}
-use Rattle.std.proofs.lemmas.List.{drop_more, drop-drop, drop_all}
+use Rattle.std.proofs.lemmas.List.{drop_more, drop-drop}
 use Rattle.std.proofs.lemmas.Bool.{cond_both, both_ways, and_parts}
 use Rattle.lines.specs.Spelling.{feed, counts, most, tag_length, width}
 use Rattle.lines.specs.Reading.{input_of, ahead, piece, line_of, line_tagged, if_spelled, worths, tag_of, tags, heard, Hears}
@@ -37,20 +37,6 @@ module _ {before after : LineReader} {answer : ℕ × ℕ} {line : Said} (h : He
       ap (map (λ p. heard (line_of p))) (pieces_first (drop at input) (get_or input at 0) (drop (at + 1) input) (drop_more input at 0 inside))
       ∙ ap (λ (bs : List ℕ). heard (line_of (piece (drop at input))) ∷ lines_in bs) (drop-drop n at input ∙ ap (λ k. drop k input) (sym h.passed) ∙ ap (drop after.place) (sym h.same_input))
       ∙ ap (λ (l : Said). l ∷ lines_ahead after) (sym h.said_so)
-
-  piece_some : 0 < length (piece (ahead before))
-  piece_some =
-      let at = before.place in
-      let input = input_of before in
-      subst (λ bs. 0 < length (piece bs)) (sym (drop_more input at 0 inside))
-      (cond_both (eqb (get_or input at 0) feed) (get_or input at 0 ∷ []) (get_or input at 0 ∷ piece (drop (at + 1) input)) (λ p. 0 < length p) (λ _. omega arith) (λ _. omega arith))
-
-  pub ahead_less : length (input_of after) - after.place < length (input_of before) - before.place
-  ahead_less = omega (arith, ap length h.same_input, h.passed, piece_some, inside)
-
--- a reader at its end has no line ahead
-pub ahead_none : (r : LineReader) → r.place ≡ length (input_of r) → lines_ahead r ≡ []
-ahead_none r e = ap lines_in (drop_all r.place (input_of r) (omega arith))
 
 -- what is heard has few numbers, since no tag allows more than the most
 abbrev Few : Option Said → Type 0

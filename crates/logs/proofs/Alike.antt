@@ -1,12 +1,12 @@
 -- What the cells of a session held before it was opened makes no difference: tables that are alike in the cells in
 -- use, and in the number of cells, answer alike and stay alike.
-use Rattle.std.proofs.Common.{◌≡◌, ℕ, ◌+◌, ◌<◌, ◌≤◌, min, Bool, true, false, cond, ◌&&◌, ltb, List, [], ◌∷◌, ◌++◌, length, get_or, set, Some, None, Option, sym, refl, ap, ◌∙◌, subst, arith, length-set}
+use Rattle.std.proofs.Common.{◌≡◌, ℕ, ◌+◌, ◌<◌, ◌≤◌, min, Bool, true, false, cond, ◌&&◌, ltb, List, [], ◌∷◌, ◌++◌, length, get_or, set, is_some, Some, None, Option, sym, refl, ap, ◌∙◌, subst, arith, length-set, Ok, Err}
+use Rattle.std.specs.Option.{option_map_or}
 use lib.Seq.{take-set-lt}
 use Rattle.std.proofs.lemmas.List.{get_or-take, take_more_set}
 use Rattle.std.proofs.lemmas.Bool.{eqb-true, ltb-true, and_parts}
-use Rattle.systems.specs.Outcomes.{answer_of, accepts}
-use Rattle.systems.specs.declared.outcome.Outcome.{Outcome}
-use Rattle.systems.specs.declared.outcome.Outcome.TheVariants.{Accepted, Unfit, Bad, Listed, Full, FirstNotListed, Unsettled}
+use Rattle.systems.specs.Outcomes.{Outcome, answer_of, accepts}
+use Rattle.systems.specs.declared.outcome.Refusal.TheVariants.{Unfit, Bad, Listed, Full, FirstNotListed, Unsettled}
 use Rattle.sessions.specs.declared.cell.Cell.{Cell}
 use Rattle.sessions.specs.Tables.{Listing, cell, empty, used, most_places, state_at, find, unsettled}
 use Rattle.sessions.specs.Calls.{offer, offered, scanned, settle, settled, shown, verdict}
@@ -44,9 +44,9 @@ module _ {S : Type 0} (v : Logged S) (t u : Listing S) (a : Alike t u) where
   offer_by : List (Cell S) → ℕ → ℕ → S → Outcome
   offer_by us n r x =
       cond (v.means.fits x)
-      (cond (v.means.bad x) Bad
-      (cond (ltb (find v.means x us) n) (Listed (find v.means x us)) (cond (ltb n (min r most_places)) (Accepted n) Full)))
-      Unfit
+      (cond (v.means.bad x) (Err Bad)
+      (option_map_or (λ p. Err (Listed p)) (find v.means x us) (cond (ltb n (min r most_places)) (Ok n) (Err Full))))
+      (Err Unfit)
 
   offer_alike : (x : S) → offer v.means t x ≡ offer v.means u x
   unfolding offer_by
@@ -63,10 +63,11 @@ module _ {S : Type 0} (v : Logged S) (t u : Listing S) (a : Alike t u) where
   shown_alike : (p : ℕ) → shown v.means t p ≡ shown v.means u p
   shown_alike p =
       both_conds (λ (x y : (ℕ × ℕ) × S). x ≡ y) (ltb p t.len) (ltb p u.len) _ _ _ _ (ap (ltb p) a.len)
-      (λ h. ap (λ (x : S). (answer_of (Accepted p), x)) (state_alike p (ltb-true _ _ h))) (λ _. refl)
+      (λ h. ap (λ (x : S). (answer_of (Ok p), x)) (state_alike p (ltb-true _ _ h))) (λ _. refl)
 
   verdict_by : List (Cell S) → ℕ → Outcome
-  verdict_by us n = cond (ltb (find v.means v.means.first us) n) (cond (ltb (unsettled us) n) (Unsettled (unsettled us)) (Accepted n)) FirstNotListed
+  verdict_by us n =
+      cond (is_some (find v.means v.means.first us)) (option_map_or (λ p. Err (Unsettled p)) (unsettled us) (Ok n)) (Err FirstNotListed)
 
   verdict_alike : verdict v.means t ≡ verdict v.means u
   unfolding verdict_by

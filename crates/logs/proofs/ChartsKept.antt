@@ -8,7 +8,8 @@ use Rattle.systems.specs.Outcomes.{accepts}
 use Rattle.charts.specs.Entries.{most_steps, most_inputs, begun, lead_at, add_step, with_step, add_input, with_input, set_lead, with_lead}
 use Rattle.charts.specs.Charts.{chart_meaning, fits, bad, legal}
 use Rattle.charts.specs.declared.entries.Entries.{Entries}
-use Rattle.charts.proofs.Valid.{Valid, valid_step, valid_lead}
+use Rattle.charts.specs.Entries.{Valid}
+use Rattle.charts.proofs.Valid.{valid_step, valid_lead}
 
 -- valid entries in a table of full size
 pub record Kept (e : Entries) : Type 0 where

@@ -1,18 +1,18 @@
 -- What a line before a session comes to fits its columns, and so do the choices of a plant.
-use Rattle.std.proofs.Common.{◌≡◌, ℕ, ◌/◌, ◌^◌, ◌≤◌, Bool, true, cond, not, eqb, ltb, leb, List, Some, None, Option, arith, lit<, lit≤}
+use Rattle.std.proofs.Common.{◌≡◌, ℕ, zero, suc, ◌+◌, ◌/◌, ◌^◌, ◌≤◌, Bool, true, cond, not, eqb, ltb, leb, List, Some, None, Option, arith, lit<, lit≤, Ok, Err}
 use native.Mathlib.Nat.{pow-le-pow_right}
-use Rattle.std.proofs.lemmas.Bool.{cond_both, ltb-true}
-use Rattle.systems.specs.declared.outcome.Outcome.{Outcome}
-use Rattle.systems.specs.declared.outcome.Outcome.TheVariants.{Accepted, FieldOutside, NoRoom, NotEntered, GapsUnlike}
+use Rattle.std.proofs.lemmas.Bool.{cond_both}
+use Rattle.systems.specs.Outcomes.{Outcome}
+use Rattle.systems.specs.declared.outcome.Refusal.TheVariants.{FieldOutside, NoRoom, NotEntered}
 use Rattle.policies.specs.Classes.{classes}
 use Rattle.policies.specs.Orders.{earliest_deadline, preemptive}
 use Rattle.charts.specs.Entries.{most_steps, most_inputs, add_step, add_input, set_lead}
 use Rattle.charts.specs.declared.entries.Entries.{Entries}
-use Rattle.charts.proofs.Valid.{Valid as ChartValid}
+use Rattle.charts.specs.Entries.{Valid as ChartValid}
 use Rattle.plants.specs.Limits.{most_ticks, most_resources, most_tasks}
-use Rattle.systems.specs.Lowest.{lowest}
+use Rattle.std.specs.List.{find, range_with_len}
 use Rattle.plants.specs.Layouts.{is_within, unlike, valid}
-use Rattle.plants.specs.Entries.{resource_comes_to, outside_field, if_inside, task_comes_to}
+use Rattle.plants.specs.Entries.{resource_comes_to, outside_field, if_inside, if_alike, task_comes_to}
 use Rattle.plants.specs.declared.layout.Layout.{Layout}
 use Rattle.plants.specs.declared.layout.TaskEntry.{TaskEntry}
 use Rattle.plants.specs.Entered.{Valid, valid_parts}
@@ -42,19 +42,22 @@ module _ (rest : Outcome) (h : Small rest) where
       (field (not (is_within 1 e.least e.deadline)) 6 _ (lit≤ tt)
       (field (leb classes e.class) 7 None (lit≤ tt) h))))))
 
+-- a needed task whose gaps are unlike is one of a few
+alike : (rest : Outcome) → Small rest → (p : ℕ → Bool) (n a : ℕ) → a + n ≤ most_tasks → Small (if_alike (find p (range_with_len a n)) rest)
+alike rest h p zero a few = h
+alike rest h p (suc n) a few =
+    cond_both (p a) (Some a) _ (λ o. Small (if_alike o rest)) (λ _. fits 6 a (lit≤ tt) (omega arith)) (λ _. alike rest h p n (a + 1) (omega arith))
+
 pub task_small : (l : Layout) (e : TaskEntry) → l.count ≤ most_tasks → Small (task_comes_to l e)
 task_small l e few =
-    let j = lowest (unlike l e) l.count in
-    cond_both (eqb l.count most_tasks) NoRoom _ Small
+    cond_both (eqb l.count most_tasks) (Err NoRoom) _ Small
     (λ _. fits 4 0 (lit≤ tt) (lit≤ tt))
     (λ _. fields _
-    (cond_both (leb l.resource_count e.resource) (NotEntered 8) _ Small
+    (cond_both (leb l.resource_count e.resource) (Err (NotEntered 8)) _ Small
     (λ _. fits 5 8 (lit≤ tt) (lit≤ tt))
-    (λ _. cond_both (ltb 0 (e.needs / 2 ^ l.count)) (NotEntered 9) _ Small
+    (λ _. cond_both (ltb 0 (e.needs / 2 ^ l.count)) (Err (NotEntered 9)) _ Small
     (λ _. fits 5 9 (lit≤ tt) (lit≤ tt))
-    (λ _. cond_both (ltb j l.count) (GapsUnlike j) (Accepted l.count) Small
-    (λ b. fits 6 j (lit≤ tt) (omega (arith, ltb-true _ _ b)))
-    (λ _. fits 0 _ (lit≤ tt) (omega arith)))))
+    (λ _. alike (Ok l.count) (fits 0 _ (lit≤ tt) (omega arith)) (unlike l e) l.count 0 (omega arith))))
     e)
 
 -- a plant has few tasks, so its choices have numbers that fit a column
@@ -68,11 +71,11 @@ opening_small (Some k) tag = fits 0 0 (lit≤ tt) (lit≤ tt)
 
 resource_small : (l : Layout) (a b : ℕ) → Valid l → Small (resource_comes_to l a b)
 resource_small l a b v =
-    cond_both (eqb l.resource_count most_resources) NoRoom _ Small
+    cond_both (eqb l.resource_count most_resources) (Err NoRoom) _ Small
     (λ _. fits 4 0 (lit≤ tt) (lit≤ tt))
-    (λ _. cond_both (ltb earliest_deadline a) (FieldOutside 1) _ Small
+    (λ _. cond_both (ltb earliest_deadline a) (Err (FieldOutside 1)) _ Small
     (λ _. fits 3 1 (lit≤ tt) (lit≤ tt))
-    (λ _. cond_both (ltb preemptive b) (FieldOutside 2) (Accepted l.resource_count) Small
+    (λ _. cond_both (ltb preemptive b) (Err (FieldOutside 2)) (Ok l.resource_count) Small
     (λ _. fits 3 2 (lit≤ tt) (lit≤ tt))
     (λ _. fits 0 _ (lit≤ tt) (omega (arith, v.resources_few)))))
 
@@ -80,22 +83,22 @@ pub plant_reply_small : (l : Layout) (tag : Tag) (ns : List ℕ) → Valid l →
 plant_reply_small l tag ns v =
     cond_both (is Rsrc tag) (resource_comes_to l (nth ns 0) (nth ns 1)) _ Small (λ _. resource_small l (nth ns 0) (nth ns 1) v)
     (λ _. cond_both (is Task tag) (task_comes_to l (task_of ns)) _ Small (λ _. task_small l (task_of ns) v.tasks_few)
-    (λ _. cond_both (is Fixd tag) (Accepted l.count) (unheard tag) Small (λ _. fits 0 _ (lit≤ tt) (omega (arith, v.tasks_few))) (λ _. unheard_small tag)))
+    (λ _. cond_both (is Fixd tag) (Ok l.count) (unheard tag) Small (λ _. fits 0 _ (lit≤ tt) (omega (arith, v.tasks_few))) (λ _. unheard_small tag)))
 
 step_small : (e : Entries) (f : ℕ) → e.steps ≤ most_steps → Small (add_step e f)
 step_small e f few =
-    cond_both (ltb e.steps most_steps) _ NoRoom Small
-    (λ _. cond_both (leb f 1) (Accepted e.steps) (FieldOutside 1) Small (λ _. fits 0 _ (lit≤ tt) (omega arith)) (λ _. fits 3 1 (lit≤ tt) (lit≤ tt)))
+    cond_both (ltb e.steps most_steps) _ (Err NoRoom) Small
+    (λ _. cond_both (leb f 1) (Ok e.steps) (Err (FieldOutside 1)) Small (λ _. fits 0 _ (lit≤ tt) (omega arith)) (λ _. fits 3 1 (lit≤ tt) (lit≤ tt)))
     (λ _. fits 4 0 (lit≤ tt) (lit≤ tt))
 
 input_small : (e : Entries) → e.inputs ≤ most_inputs → Small (add_input e)
-input_small e few = cond_both (ltb e.inputs most_inputs) (Accepted e.inputs) NoRoom Small (λ _. fits 0 _ (lit≤ tt) (omega arith)) (λ _. fits 4 0 (lit≤ tt) (lit≤ tt))
+input_small e few = cond_both (ltb e.inputs most_inputs) (Ok e.inputs) (Err NoRoom) Small (λ _. fits 0 _ (lit≤ tt) (omega arith)) (λ _. fits 4 0 (lit≤ tt) (lit≤ tt))
 
 lead_small : (e : Entries) (s i n : ℕ) → Small (set_lead e s i n)
 lead_small e s i n =
-    cond_both (ltb s e.steps) _ (FieldOutside 1) Small
-    (λ _. cond_both (ltb i e.inputs) _ (FieldOutside 2) Small
-    (λ _. cond_both (ltb n e.steps) (Accepted 0) (FieldOutside 3) Small (λ _. fits 0 0 (lit≤ tt) (lit≤ tt)) (λ _. fits 3 3 (lit≤ tt) (lit≤ tt)))
+    cond_both (ltb s e.steps) _ (Err (FieldOutside 1)) Small
+    (λ _. cond_both (ltb i e.inputs) _ (Err (FieldOutside 2)) Small
+    (λ _. cond_both (ltb n e.steps) (Ok 0) (Err (FieldOutside 3)) Small (λ _. fits 0 0 (lit≤ tt) (lit≤ tt)) (λ _. fits 3 3 (lit≤ tt) (lit≤ tt)))
     (λ _. fits 3 2 (lit≤ tt) (lit≤ tt)))
     (λ _. fits 3 1 (lit≤ tt) (lit≤ tt))
 
@@ -104,4 +107,4 @@ chart_reply_small e tag ns v =
     cond_both (is Step tag) (add_step e (nth ns 0)) _ Small (λ _. step_small e (nth ns 0) v.few_steps)
     (λ _. cond_both (is Inpt tag) (add_input e) _ Small (λ _. input_small e v.few_inputs)
     (λ _. cond_both (is Lead tag) (set_lead e (nth ns 0) (nth ns 1) (nth ns 2)) _ Small (λ _. lead_small e (nth ns 0) (nth ns 1) (nth ns 2))
-    (λ _. cond_both (is Fixd tag) (Accepted e.steps) (unheard tag) Small (λ _. fits 0 _ (lit≤ tt) (omega (arith, v.few_steps))) (λ _. unheard_small tag))))
+    (λ _. cond_both (is Fixd tag) (Ok e.steps) (unheard tag) Small (λ _. fits 0 _ (lit≤ tt) (omega (arith, v.few_steps))) (λ _. unheard_small tag))))

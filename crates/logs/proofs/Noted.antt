@@ -1,9 +1,8 @@
 -- A line that is written into a buffer with room for it: the bytes at the front are its spelling.
-use Rattle.std.proofs.Common.{◌≡◌, ℕ, ◌≤◌, true, List, [], ◌∷◌, ◌++◌, length, take, drop, sym, refl, ap, ◌∙◌, arith}
+use Rattle.std.proofs.Common.{◌≡◌, ℕ, ◌≤◌, true, List, [], ◌∷◌, ◌++◌, length, take, drop, sym, refl, ap, ◌∙◌, arith, Ok}
 use Rattle.std.proofs.lemmas.List.{take_at}
 use Rattle.std.proofs.lemmas.Bool.{and_from, cond-true, le-leb}
 use Rattle.systems.specs.Outcomes.{answer_of, accepts}
-use Rattle.systems.specs.declared.outcome.Outcome.TheVariants.{Accepted}
 use Rattle.lines.specs.Spelling.{spelling, small, largest, most, longest}
 use Rattle.lines.specs.Writing.{writing, written, over}
 use Rattle.lines.specs.declared.tag.Tag.{Tag}
@@ -15,7 +14,7 @@ pub small_pair : (n v : ℕ) → n ≤ largest → v ≤ largest → small (n �
 small_pair n v a b = and_from _ _ (le-leb n largest a) (and_from _ _ (le-leb v largest b) refl)
 
 module _ (t : Tag) (ns out after : List ℕ) (r : ℕ × ℕ) (a : r ≡ answer_of (writing t ns (length out))) (s : small ns ≡ true) (few : length ns ≤ most) (room : length out ≡ longest) where
-  accepted : writing t ns (length out) ≡ Accepted (length (spelling t ns))
+  accepted : writing t ns (length out) ≡ Ok (length (spelling t ns))
   accepted = writing_accepted t ns (length out) s (omega (arith, length_spelling t ns))
 
   pub noted_length : r.1 ≡ length (spelling t ns)

@@ -36,13 +36,13 @@ use Rattle.lines.specs.declared.tag.Tag.{Tag}
 use Rattle.lines.specs.declared.tag.Tag.TheVariants.{Verd, Fixd, Rsrc, Task, Step, Inpt, Lead, Offr, Setl, Show}
 use Rattle.logs.specs.declared.opening.Kind.{Kind}
 use Rattle.logs.specs.declared.opening.Kind.TheVariants.{Plant, Chart}
-use Rattle.logs.specs.Answers.{Said, is, nth, answered}
+use Rattle.logs.specs.Answers.{Said, Narrow, is, nth, answered}
 use Rattle.logs.specs.Pieces.{pieces}
 use Rattle.logs.specs.Serving.{Logged, after_offer, reply, is_shown, says_in, goes_in, served}
 use Rattle.logs.specs.Turns.{Turn, Opening, PlantDraft, ChartDraft, OnPlant, OnChart, Memory, kind, begins, opening, plant_reply, plant_after, task_of, chart_reply, chart_after, site_plant, logged_plant, logged_chart, says, entered, fixed, goes, SafeTicks, SafeTurn, SafeTicksTurn}
 use Rattle.logs.specs.Log.{bytes_read, answers, turn_after, fresh, places, lines_read, ClosedIsSafe, ClosedIsNeverLate, AllSmall, Complete, AnyMemory}
 use Rattle.logs.proofs.Ahead.{few_heard}
-use Rattle.logs.proofs.Served.{Narrow, reply_small}
+use Rattle.logs.proofs.Served.{reply_small}
 use Rattle.logs.proofs.Noted.{small_pair}
 use Rattle.logs.proofs.Entries.{opening_small, plant_reply_small, chart_reply_small, few_choices}
 use Rattle.logs.proofs.ChartsKept.{Kept, kept_begun, kept_step, kept_input, kept_lead, chart_lawful}
@@ -78,13 +78,13 @@ table_opened m cells e = record { reached = reached_open m cells (empty cells) r
 module _ {S : Type 0} (v : Logged S) (t : Listing S) (k : TableKept v.means t) where
   offered_kept : (x : S) → TableKept v.means (offered v.means t x)
   offered_kept x = record {
-    reached = reached_step v.means v.means t _ (Offer x) refl refl k.reached;
+    reached = reached_step v.means t _ (Offer x) refl k.reached;
     sized = cond_both (accepts (offer v.means t x)) (added t x) t (λ u. length u.cells ≡ places) (λ _. simp length-set k.sized) (λ _. k.sized);
   }
 
   settled_kept : (p : ℕ) → TableKept v.means (settled v.means t p)
   settled_kept p = record {
-    reached = reached_step v.means v.means t _ (Settle p) refl refl k.reached;
+    reached = reached_step v.means t _ (Settle p) refl k.reached;
     sized = cond_both (accepts (settle v.means t p)) (marked v.means t p) t (λ u. length u.cells ≡ places) (λ _. simp length-set k.sized) (λ _. k.sized);
   }
 

@@ -1,8 +1,7 @@
 -- A line that is refused changes nothing: the turn after it is the turn before it.
 use Rattle.std.proofs.Common.{◌≡◌, ℕ, zero, suc, Bool, true, false, cond, eqb, List, [], ◌∷◌, length, get_or, take, Some, None, Option, sym, refl, ap, ◌∙◌, subst, add-one, arith}
 use Rattle.std.proofs.lemmas.Bool.{cond_both, cond-false, and_parts, eqb-true, ne_eqb}
-use Rattle.systems.specs.Outcomes.{answer_of, accepts}
-use Rattle.systems.specs.declared.outcome.Outcome.{Outcome}
+use Rattle.systems.specs.Outcomes.{Outcome, answer_of, accepts}
 use Rattle.sessions.specs.Tables.{Listing}
 use Rattle.sessions.specs.Calls.{offer, settle, settled}
 use Rattle.charts.specs.Entries.{add_step, add_input, set_lead}

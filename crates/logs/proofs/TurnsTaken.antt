@@ -67,22 +67,13 @@ open_more cells {l} {ls} {lines} out {out'} {tag} {k} m t e h o =
     o ∙ ap (λ b. out ++ line_spelled (answered tag b)) (h ∙ ap (λ j. answer_of (opening j tag)) e) ∙ ap (λ u. out ++ line_spelled (answered u (answer_of (opening (kind u) u)))) t in
     turn_more cells Opening (begins k) l ls lines out out' m noted (goes_plain cells Opening l refl ∙ ap (λ u. begins (kind u)) (sym t) ∙ ap begins (sym e))
 
--- one line more in a draft, by the parts of its answer
-module _ (cells : Memory) (turn : Turn) {then : Turn} {l : Said} {ls lines : List Said} (out : List ℕ) {out' : List ℕ} {tag : Tag} {ns : List ℕ} (m : lines ≡ l ∷ ls) (t : tag ≡ l.0) (n : ns ≡ l.1) (o : out' ≡ out ++ line_spelled (says turn (tag, ns))) (k : then ≡ entered turn (tag, ns)) where
-  heard : (tag, ns) ≡ l
-  heard = ap (λ u. (u, ns)) t ∙ ap (λ ms. (l.0, ms)) n
+-- one line more in a draft
+module _ (cells : Memory) (turn : Turn) {then : Turn} {l : Said} {ls lines : List Said} (out : List ℕ) {out' : List ℕ} (m : lines ≡ l ∷ ls) (o : out' ≡ out ++ line_spelled (says turn l)) (k : then ≡ entered turn l) where
+  pub draft_more : is Fixd l.0 ≡ false → out' ++ spelled (answers cells then ls) ≡ out ++ spelled (answers cells turn lines)
+  draft_more f = turn_more cells turn then l ls lines out out' m o (goes_entered cells turn then l f k)
 
-  noted : out' ≡ out ++ line_spelled (says turn l)
-  noted = o ∙ ap (λ u. out ++ line_spelled (says turn u)) heard
-
-  after : then ≡ entered turn l
-  after = k ∙ ap (entered turn) heard
-
-  pub draft_more : is Fixd tag ≡ false → out' ++ spelled (answers cells then ls) ≡ out ++ spelled (answers cells turn lines)
-  draft_more f = turn_more cells turn then l ls lines out out' m noted (goes_entered cells turn then l (ap (is Fixd) (sym t) ∙ f) after)
-
-  pub draft_last : is Fixd tag ≡ true → out' ++ spelled (answers cells (fixed cells then) ls) ≡ out ++ spelled (answers cells turn lines)
-  draft_last f = turn_more cells turn (fixed cells then) l ls lines out out' m noted (goes_fixed cells turn then l (ap (is Fixd) (sym t) ∙ f) after)
+  pub draft_last : is Fixd l.0 ≡ true → out' ++ spelled (answers cells (fixed cells then) ls) ≡ out ++ spelled (answers cells turn lines)
+  draft_last f = turn_more cells turn (fixed cells then) l ls lines out out' m o (goes_fixed cells turn then l f k)
 
 pub left_some : (cells : Memory) (k : Option Kind) (ls : List Said) → is_some k ≡ true → answers_left cells k ls ≡ answers cells (begins k) ls
 left_some cells None ls e = absurd (both_ways false refl e)
@@ -108,8 +99,7 @@ pub on_chart : (cells : Memory) (x : Entries) (t : Listing ℕ) (ls : List Said)
 on_chart cells x t ls = on_session cells (logged_chart x) (OnChart x) (λ _. refl) (λ _ _. refl) (λ _ _. refl) ls t
 
 -- a draft that was fixed, and a session served over some cells, whatever these held
-pub session_done : {S : Type 0} (v v' : Logged S) (cells lent : List (Cell S)) (before on : Turn) (rest lines : List Said) (out out₁ out₂ : List ℕ) (f : Bool) → out₂ ≡ out₁ ++ spelled (served v' (empty lent) rest) → v' ≡ v → length lent ≡ length cells → answers fresh on rest ≡ served v (empty cells) rest → f ≡ true → out₁ ++ spelled (cond f (answers fresh on rest) []) ≡ out ++ spelled (answers fresh before lines) → out₂ ≡ out ++ spelled (answers fresh before lines)
-session_done v v' cells lent before on rest lines out out₁ out₂ f s e n h t d =
-    s ∙ ap (λ w. out₁ ++ spelled (served w (empty lent) rest)) e
-    ∙ ap (λ ls. out₁ ++ spelled ls) (served_alike v rest (empty lent) (empty cells) (alike_empty lent cells n) ∙ sym h)
+pub session_done : {S : Type 0} (v : Logged S) (cells lent : List (Cell S)) (before on : Turn) (rest lines : List Said) (out out₁ out₂ : List ℕ) (f : Bool) → out₂ ≡ out₁ ++ spelled (served v (empty lent) rest) → length lent ≡ length cells → answers fresh on rest ≡ served v (empty cells) rest → f ≡ true → out₁ ++ spelled (cond f (answers fresh on rest) []) ≡ out ++ spelled (answers fresh before lines) → out₂ ≡ out ++ spelled (answers fresh before lines)
+session_done v cells lent before on rest lines out out₁ out₂ f s n h t d =
+    s ∙ ap (λ ls. out₁ ++ spelled ls) (served_alike v rest (empty lent) (empty cells) (alike_empty lent cells n) ∙ sym h)
     ∙ ap (λ b. out₁ ++ spelled (cond b (answers fresh on rest) [])) (sym t) ∙ d

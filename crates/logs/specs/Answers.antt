@@ -1,8 +1,8 @@
 -- Lines as they are said, and the lines of the log that answer them.
-use Rattle.std.specs.Prelude.{ℕ, Bool, cond, List, [], ◌∷◌, ◌++◌, ◌==◌, slice_index}
-use Rattle.systems.specs.declared.outcome.Outcome.{Outcome}
-use Rattle.systems.specs.declared.outcome.Outcome.TheVariants.{NotALine, OutOfTurn}
-use Rattle.lines.specs.Spelling.{spelling}
+use Rattle.std.specs.Prelude.{ℕ, ◌≤◌, Bool, cond, List, [], ◌∷◌, ◌++◌, ◌==◌, slice_index, Err}
+use Rattle.systems.specs.Outcomes.{Outcome}
+use Rattle.systems.specs.declared.outcome.Refusal.TheVariants.{NotALine, OutOfTurn}
+use Rattle.lines.specs.Spelling.{spelling, largest}
 use Rattle.lines.specs.declared.tag.Tag.{Tag}
 use Rattle.lines.specs.declared.tag.Tag.TheVariants.{Plnt, Chrt, Inpt, Fixd, Verd, Step, Setl, Show, Rsrc, Lead, Task, Offr, Runs, Line}
 
@@ -36,11 +36,16 @@ nth ns k = slice_index ns k
 
 -- a line that no call answers here: bytes that are not a line, or a line out of turn
 abbrev pub unheard : Tag → Outcome
-unheard t = cond (is Line t) NotALine OutOfTurn
+unheard t = cond (is Line t) (Err NotALine) (Err OutOfTurn)
 
 -- the log's line for an answer: the tag, the number and the value
 abbrev pub answered : Tag → ℕ × ℕ → Said
 answered t a = (t, a.0 ∷ a.1 ∷ [])
+
+-- both numbers of an answer fit their columns
+pub record Narrow (a : ℕ × ℕ) : Type 0 where
+  pub number : a.0 ≤ largest
+  pub value : a.1 ≤ largest
 
 -- the bytes of a line, and of lines one after another
 abbrev pub line_spelled : Said → List ℕ

@@ -1,5 +1,7 @@
 -- The log of an input.
 use Rattle.std.specs.Prelude.{◌≡◌, ℕ, ◌+◌, true, false, List, [], ◌∷◌, length, take, replicate, Some, None, fold, Option, ◌≢◌, slice_index_or}
+use Rattle.systems.specs.Systems.{Meaning}
+use Rattle.sessions.specs.declared.cell.Cell.{Cell}
 use Rattle.sessions.specs.Tables.{cell}
 use Rattle.plants.specs.Records.{first_state}
 use Rattle.lines.specs.Spelling.{small}
@@ -32,7 +34,10 @@ answers_left cells (Some k) ls = answers cells (begins (Some k)) ls
 abbrev pub turn_after : Memory → Turn → List Said → Turn
 turn_after cells = fold (goes cells)
 
--- cells as a new session has them
+-- cells as a new session on a system has them
+abbrev pub new_cells : {S : Type 0} → Meaning S → List (Cell S)
+new_cells m = replicate places (cell m.first false)
+
 abbrev pub fresh : Memory
 fresh = record { for_plants = replicate places (cell first_state false); for_charts = replicate places (cell 0 false) }
 

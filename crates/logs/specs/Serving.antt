@@ -1,10 +1,9 @@
 -- Lines in a session: what each is answered, and the table that it leaves.
-use Rattle.std.specs.Prelude.{ℕ, Bool, cond, ◌&&◌, List, [], ◌∷◌, Some, None, Option, nat_lt}
+use Rattle.std.specs.Prelude.{ℕ, Bool, cond, ◌&&◌, List, [], ◌∷◌, Some, None, Option, nat_lt, Err}
 use Rattle.systems.specs.Systems.{Meaning}
-use Rattle.systems.specs.Outcomes.{answer_of}
+use Rattle.systems.specs.Outcomes.{Outcome, answer_of}
 use Rattle.systems.specs.Judging.{judged}
-use Rattle.systems.specs.declared.outcome.Outcome.{Outcome}
-use Rattle.systems.specs.declared.outcome.Outcome.TheVariants.{Unfit}
+use Rattle.systems.specs.declared.outcome.Refusal.TheVariants.{Unfit}
 use Rattle.sessions.specs.Tables.{Listing, state_at}
 use Rattle.sessions.specs.Calls.{offer, offered, settle, settled, shown, verdict}
 use Rattle.lines.specs.declared.tag.Tag.{Tag}
@@ -23,7 +22,7 @@ logged meaning numbers restored system = record { means = meaning system; number
 module _ {S : Type 0} (v : Logged S) where
   -- numbers that are no state at all do not fit either
   abbrev pub offer_of : Listing S → Option S → Outcome
-  offer_of t None = Unfit
+  offer_of t None = (Err Unfit)
   offer_of t (Some x) = offer v.means t x
 
   abbrev pub after_offer : Listing S → Option S → Listing S
@@ -45,6 +44,10 @@ module _ {S : Type 0} (v : Logged S) where
   -- a SHOW that is accepted, which the state's OFFR line answers
   abbrev pub is_shown : Listing S → Tag → List ℕ → Bool
   is_shown t tag ns = is Show tag && nat_lt (nth ns 0) t.len
+
+  -- that state, and none for any other line
+  abbrev pub state_shown : Listing S → Tag → List ℕ → Option S
+  state_shown t tag ns = cond (is_shown t tag ns) (Some (state_at v.means t (nth ns 0))) None
 
   abbrev pub says_in : Listing S → Tag → List ℕ → Said
   says_in t tag ns =

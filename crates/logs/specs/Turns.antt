@@ -1,9 +1,7 @@
 -- Whose turn it is, what a line is answered in its turn, and whose turn it is then.
-use Rattle.std.specs.Prelude.{ℕ, cond, List, Some, None, Option}
+use Rattle.std.specs.Prelude.{ℕ, cond, List, Some, None, Option, Ok}
 use Rattle.systems.specs.Systems.{Meaning, BadRun, Safe}
-use Rattle.systems.specs.Outcomes.{answer_of}
-use Rattle.systems.specs.declared.outcome.Outcome.{Outcome}
-use Rattle.systems.specs.declared.outcome.Outcome.TheVariants.{Accepted}
+use Rattle.systems.specs.Outcomes.{Outcome, answer_of}
 use Rattle.sessions.specs.declared.cell.Cell.{Cell}
 use Rattle.sessions.specs.Tables.{Listing, empty}
 use Rattle.charts.specs.Entries.{begun, add_step, with_step, add_input, with_input, set_lead, with_lead}
@@ -62,7 +60,7 @@ begins (Some Chart) = ChartDraft begun
 
 abbrev pub opening : Option Kind → Tag → Outcome
 opening None t = unheard t
-opening (Some k) t = Accepted 0
+opening (Some k) t = Ok 0
 
 -- In a chart's draft: STEP, INPT, LEAD, FIXD
 abbrev pub chart_reply : Entries → Tag → List ℕ → Outcome
@@ -70,7 +68,7 @@ chart_reply e t ns =
     cond (is Step t) (add_step e (nth ns 0))
     (cond (is Inpt t) (add_input e)
     (cond (is Lead t) (set_lead e (nth ns 0) (nth ns 1) (nth ns 2))
-    (cond (is Fixd t) (Accepted e.steps) (unheard t))))
+    (cond (is Fixd t) (Ok e.steps) (unheard t))))
 
 abbrev pub chart_after : Entries → Tag → List ℕ → Entries
 chart_after e t ns =
@@ -94,7 +92,7 @@ task_of ns = record {
 abbrev pub plant_reply : Layout → Tag → List ℕ → Outcome
 plant_reply l t ns =
     cond (is Rsrc t) (resource_comes_to l (nth ns 0) (nth ns 1))
-    (cond (is Task t) (task_comes_to l (task_of ns)) (cond (is Fixd t) (Accepted l.count) (unheard t)))
+    (cond (is Task t) (task_comes_to l (task_of ns)) (cond (is Fixd t) (Ok l.count) (unheard t)))
 
 abbrev pub plant_after : Layout → Tag → List ℕ → Layout
 plant_after l t ns = cond (is Rsrc t) (after_resource l (nth ns 0) (nth ns 1)) (cond (is Task t) (after_task l (task_of ns)) l)

@@ -1,40 +1,53 @@
 // Lines in a draft, of whatever it is a draft.
-ghost use Rattle.std.specs.Prelude.{◌≡◌, ◌≤◌, [], ◌++◌, IfOk, if◌then◌else◌};
-ghost use Rattle.systems.specs.Outcomes.{answer_of};
-ghost use Rattle.plants.specs.Entries.{task_comes_to, after_task};
+ghost use Rattle.std.specs.Prelude.{◌≡◌, ◌≤◌, List, [], ◌++◌, IfOk, if◌then◌else◌};
+ghost use Rattle.sessions.specs.Tables.{empty};
 ghost use Rattle.lines.specs.Spelling.{largest};
-ghost use Rattle.lines.specs.declared.tag.Tag.TheVariants.{Fixd};
-ghost use Rattle.logs.specs.Answers.{is, answered, spelled};
+ghost use Rattle.logs.specs.Answers.{Said, Narrow, answered, spelled};
 ghost use Rattle.logs.specs.Pieces.{lines_ahead};
 ghost use Rattle.logs.specs.Turns.{Turn, PlantDraft, ChartDraft, Memory, says, entered, fixed, task_of};
-ghost use Rattle.logs.specs.Log.{answers};
+ghost use Rattle.logs.specs.Serving.{logged, served};
+ghost use Rattle.logs.specs.Log.{answers, fresh, new_cells};
 
-use crate::notes::{note, number_at};
+use crate::numbers::number_at;
+use crate::progress::Progress;
+use charts::chart::Chart;
 use charts::draft::DraftChart;
-use lines::reader::LineReader;
+use lines::line::Line;
+use lines::loggable::Loggable;
 use lines::tag::Tag;
 use plants::draft::DraftPlant;
 use plants::layout::TaskEntry;
+use plants::plant::Plant;
+use policies::site::SitePolicy;
 use std::alloc::AllocError;
-use systems::outcome::Outcome;
+use systems::outcome::{Answer, Refusal, answer};
 
-// A draft that lines are entered into.
-pub(crate) trait Drafting {
+// A draft that lines are entered into, and that is then fixed.
+pub(crate) trait Drafting: Drop {
+    type Fixed: Loggable + Drop;
+
     ghost turn: { Self → Turn };
 
     // Enters a line, whose answer fits its columns; FIXD is answered and enters nothing.
-    fn enter(&mut self, tag: Tag, numbers: &[u32]) -> (u32, usize)
-        ensures answer { answered tag result ≡ says (turn self.old) (tag, numbers.now) }
-        ensures after { turn self.new ≡ entered (turn self.old) (tag, numbers.now) }
-        ensures number { result.0 ≤ largest }
-        ensures value { result.1 ≤ largest };
+    fn enter(&mut self, line: &Line) -> Answer
+        ensures answer { answered line.now.0 result ≡ says (turn self.old) line.now }
+        ensures after { turn self.new ≡ entered (turn self.old) line.now }
+        ensures narrow { Narrow result };
+
+    // Fixes the draft: the turn after it is a session on what it was fixed as.
+    fn fixed(self) -> Self::Fixed
+        ensures serves { (lines : List Said) → answers fresh (fixed fresh (turn self)) lines ≡ served (logged Self.Fixed.meaning Self.Fixed.numbers Self.Fixed.restored result) (empty (new_cells (Self.Fixed.meaning result))) lines }
+        ensures few { (Self.Fixed.meaning result).count ≤ largest };
 }
 
 impl Drafting for DraftChart {
+    type Fixed = Chart;
+
     ghost turn = { λ d. ChartDraft d.entries };
 
-    fn enter(&mut self, tag: Tag, numbers: &[u32]) -> (u32, usize) {
-        match tag {
+    fn enter(&mut self, line: &Line) -> Answer {
+        let numbers = line.numbers();
+        match line.tag() {
             Tag::Step => self.add_step(number_at(numbers, 0)),
             Tag::Inpt => self.add_input(),
             Tag::Lead => self.set_lead(
@@ -42,12 +55,14 @@ impl Drafting for DraftChart {
                 number_at(numbers, 1),
                 number_at(numbers, 2),
             ),
-            Tag::Fixd => Outcome::Accepted(self.step_count()).answer(),
-            Tag::Line => Outcome::NotALine.answer(),
-            Tag::Plnt | Tag::Chrt | Tag::Verd | Tag::Setl | Tag::Show =>
-                Outcome::OutOfTurn.answer(),
-            Tag::Rsrc | Tag::Task | Tag::Offr | Tag::Runs => Outcome::OutOfTurn.answer(),
+            Tag::Fixd => answer(Ok(self.step_count())),
+            Tag::Line => Refusal::NotALine.into(),
+            _ => Refusal::OutOfTurn.into(),
         }
+    }
+
+    fn fixed(self) -> Chart {
+        self.fix()
     }
 }
 
@@ -68,58 +83,38 @@ fn task_in(numbers: &[u32]) -> TaskEntry
     }
 }
 
-// Enters a task; the answer fits its columns.
-fn enter_task(draft: &mut DraftPlant, task: TaskEntry) -> (u32, usize)
-    ensures answer { result ≡ answer_of (task_comes_to draft.old.layout task) }
-    ensures after { draft.new.layout ≡ after_task draft.old.layout task }
-    ensures number { result.0 ≤ largest }
-    ensures value { result.1 ≤ largest }
-{
-    draft.add_task(task)
-}
-
 impl Drafting for DraftPlant {
+    type Fixed = Plant<SitePolicy>;
+
     ghost turn = { λ d. PlantDraft d.layout };
 
-    fn enter(&mut self, tag: Tag, numbers: &[u32]) -> (u32, usize) {
-        match tag {
+    fn enter(&mut self, line: &Line) -> Answer {
+        let numbers = line.numbers();
+        match line.tag() {
             Tag::Rsrc => self.add_resource(number_at(numbers, 0), number_at(numbers, 1)),
-            Tag::Task => enter_task(self, task_in(numbers)),
-            Tag::Fixd => Outcome::Accepted(self.task_count()).answer(),
-            Tag::Line => Outcome::NotALine.answer(),
-            Tag::Plnt | Tag::Chrt | Tag::Inpt | Tag::Verd | Tag::Step =>
-                Outcome::OutOfTurn.answer(),
-            Tag::Setl | Tag::Show | Tag::Lead | Tag::Offr | Tag::Runs =>
-                Outcome::OutOfTurn.answer(),
+            Tag::Task => self.add_task(task_in(numbers)),
+            Tag::Fixd => answer(Ok(self.task_count())),
+            Tag::Line => Refusal::NotALine.into(),
+            _ => Refusal::OutOfTurn.into(),
         }
     }
-}
 
-// Whether a line fixes a draft.
-fn fixes(tag: Tag) -> bool
-    ensures { result ≡ is Fixd tag }
-{
-    match tag {
-        Tag::Fixd => true,
-        Tag::Plnt | Tag::Chrt | Tag::Inpt | Tag::Verd | Tag::Step | Tag::Setl | Tag::Show => false,
-        Tag::Rsrc | Tag::Lead | Tag::Task | Tag::Offr | Tag::Runs | Tag::Line => false,
+    fn fixed(self) -> Plant<SitePolicy> {
+        self.fix(SitePolicy)
     }
 }
 
 // Answers lines until the draft is to be fixed, and says whether it is.
 pub(crate) fn draft_lines<D: Drafting>(
-    reader: &mut LineReader,
+    progress: &mut Progress,
     draft: &mut D,
-    out: &mut Vec<u8>,
 ) -> Result<bool, AllocError>
-    ensures { IfOk result (λ ready. (cells : Memory) → out.new.items ++ spelled (if ready then answers cells (fixed cells (D.turn draft.new)) (lines_ahead reader.new) else []) ≡ out.old.items ++ spelled (answers cells (D.turn draft.old) (lines_ahead reader.old))) }
+    ensures { IfOk result (λ ready. (cells : Memory) → progress.new.log.items ++ spelled (if ready then answers cells (fixed cells (D.turn draft.new)) (lines_ahead progress.new.reader) else []) ≡ progress.old.log.items ++ spelled (answers cells (D.turn draft.old) (lines_ahead progress.old.reader))) }
 {
-    while !reader.at_end() {
-        let (_, line) = reader.next_line();
+    while let Some(line) = progress.next_line() {
         let tag = line.tag();
-        let (number, value) = draft.enter(tag, line.numbers());
-        note(out, tag, number, value)?;
-        if fixes(tag) {
+        progress.note(tag, draft.enter(&line))?;
+        if tag == Tag::Fixd {
             return Ok(true);
         }
     }

@@ -3,6 +3,7 @@
 
 mod drafting;
 pub mod log;
-mod notes;
+mod numbers;
 mod opening;
+mod progress;
 mod serving;

@@ -7,13 +7,12 @@ ghost use Rattle.logs.specs.Pieces.{lines_in, lines_ahead};
 ghost use Rattle.logs.specs.Turns.{Opening, ChartDraft, PlantDraft};
 ghost use Rattle.logs.specs.Log.{answers, answers_left, fresh, most_bytes, log_of, ClosedIsSafe, ClosedIsNeverLate, JudgesRuns, RefusedStays, ReadInPieces, Complete, AnyMemory};
 
-use crate::drafting::draft_lines;
+use crate::drafting::{Drafting, draft_lines};
 use crate::opening::{Kind, open};
+use crate::progress::Progress;
 use crate::serving::serve_session;
 use charts::draft::DraftChart;
-use lines::reader::LineReader;
 use plants::draft::DraftPlant;
-use policies::site::SitePolicy;
 use sessions::cell::Cell;
 use std::alloc::{AllocError, Global};
 use systems::system::System;
@@ -24,54 +23,31 @@ const PLACES: usize = 256;
 // The most bytes of an input that are read; the rest is left.
 pub const MOST_BYTES: usize = 60000;
 
-// Answers the lines of a chart's draft, and then of a session on the chart.
-fn chart_log(heap: Global, reader: &mut LineReader, out: &mut Vec<u8>) -> Result<(), AllocError>
-    ensures { OnOk result (out.new.items ≡ out.old.items ++ spelled (answers fresh (ChartDraft begun) (lines_ahead reader.old))) }
+// Answers the lines of a draft, and then of a session on what it is fixed as.
+fn draft_log<D: Drafting>(heap: Global, progress: &mut Progress, draft: D) -> Result<(), AllocError>
+    ensures { OnOk result (progress.new.log.items ≡ progress.old.log.items ++ spelled (answers fresh (D.turn draft) (lines_ahead progress.old.reader))) }
 {
-    let mut draft = DraftChart::new();
-    if !draft_lines(reader, &mut draft, out)? {
+    let mut draft = draft;
+    if !draft_lines(progress, &mut draft)? {
         return Ok(());
     }
-    let chart = draft.fix();
+    let system = draft.fixed();
     let blank = Cell {
-        state: 0,
+        state: system.first(),
         settled: false,
     };
     let mut cells = vec![in heap; blank; PLACES]?;
-    serve_session(reader, &chart, &mut cells, out)?;
-    Ok(())
-}
-
-// Answers the lines of a plant's draft, and then of a session on the plant under the site's policy.
-fn plant_log(heap: Global, reader: &mut LineReader, out: &mut Vec<u8>) -> Result<(), AllocError>
-    ensures { OnOk result (out.new.items ≡ out.old.items ++ spelled (answers fresh (PlantDraft nothing) (lines_ahead reader.old))) }
-{
-    let mut draft = DraftPlant::new();
-    if !draft_lines(reader, &mut draft, out)? {
-        return Ok(());
-    }
-    let plant = draft.fix(SitePolicy);
-    let blank = Cell {
-        state: plant.first(),
-        settled: false,
-    };
-    let mut cells = vec![in heap; blank; PLACES]?;
-    serve_session(reader, &plant, &mut cells, out)?;
+    serve_session(progress, &system, &mut cells)?;
     Ok(())
 }
 
 // Answers the lines of the draft that has begun, if one has, and of its session.
-fn begun_log(
-    heap: Global,
-    kind: Option<Kind>,
-    reader: &mut LineReader,
-    out: &mut Vec<u8>,
-) -> Result<(), AllocError>
-    ensures { OnOk result (out.new.items ≡ out.old.items ++ spelled (answers_left fresh kind (lines_ahead reader.old))) }
+fn begun_log(heap: Global, kind: Option<Kind>, progress: &mut Progress) -> Result<(), AllocError>
+    ensures { OnOk result (progress.new.log.items ≡ progress.old.log.items ++ spelled (answers_left fresh kind (lines_ahead progress.old.reader))) }
 {
     match kind {
-        Some(Kind::Plant) => plant_log(heap, reader, out),
-        Some(Kind::Chart) => chart_log(heap, reader, out),
+        Some(Kind::Plant) => draft_log(heap, progress, DraftPlant::new()),
+        Some(Kind::Chart) => draft_log(heap, progress, DraftChart::new()),
         None => Ok(()),
     }
 }
@@ -80,11 +56,10 @@ fn begun_log(
 fn whole(heap: Global, input: &[u8]) -> Result<Vec<u8>, AllocError>
     ensures { IfOk result (λ v. v.items ≡ spelled (answers fresh Opening (lines_in input.now))) }
 {
-    let mut out = Vec::new(heap);
-    let mut reader = LineReader::new(input);
-    let kind = open(&mut reader, &mut out)?;
-    begun_log(heap, kind, &mut reader, &mut out)?;
-    Ok(out)
+    let mut progress = Progress::new(heap, input);
+    let kind = open(&mut progress)?;
+    begun_log(heap, kind, &mut progress)?;
+    Ok(progress.log)
 }
 
 // The bytes of an input that are read.

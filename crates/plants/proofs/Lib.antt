@@ -4,3 +4,4 @@ pub mod Agreement
 pub mod Firsts
 pub mod OneRuns
 pub mod Chained
+pub mod Fours

@@ -2,7 +2,7 @@
 use Rattle.std.proofs.Common.{◌≡◌, ℕ, ◌<◌, Bool, true, not, ◌&&◌, eqb, get_or, Option, sym, ap, ◌∙◌, ⊎_elim}
 use Rattle.std.proofs.lemmas.Bool.{and_parts, and_from, eqb-true, eq-eqb, cases_eq, both_ways}
 use Rattle.policies.specs.Lawful.{Lawful}
-use Rattle.plants.specs.Below.{Finds}
+use Rattle.plants.specs.Below.{first_below}
 use Rattle.plants.specs.Layouts.{task_at, no_resource}
 use Rattle.plants.specs.Records.{is_ready}
 use Rattle.plants.specs.Tick.{Order, goes_before, claim_of, task_runs, runs_on}
@@ -12,6 +12,7 @@ use Rattle.plants.specs.declared.layout.Resource.{Resource}
 use Rattle.plants.specs.declared.state.PlantState.{PlantState}
 use Rattle.plants.specs.declared.state.Phase.TheVariants.{Ready}
 use Rattle.plants.specs.Decided.{decides_ready, runs_decides}
+use Rattle.plants.specs.Steps.{found_below, none_below}
 use Rattle.plants.proofs.Firsts.{First, first_of}
 
 module _ (order : Order) (law : (policy preempt : ℕ) → Lawful (order policy preempt)) (l : Layout) (s : PlantState) (ρ : ℕ) where
@@ -79,14 +80,14 @@ module _ (order : Order) (law : (policy preempt : ℕ) → Lawful (order policy 
   runs_on_from : (k : ℕ) → (task_at l k).resource ≡ ρ → Runs order l s k → runs_on order l s.records ρ k ≡ true
   runs_on_from k e r = and_from _ _ (eq-eqb _ _ e) ((runs_decides order l s k).1 r)
 
-  pub names_running : (r : Option ℕ) → Finds (runs_on order l s.records ρ) l.count r → NamesRunning order l s ρ r
+  pub names_running : (r : Option ℕ) → r ≡ first_below (runs_on order l s.records ρ) l.count → NamesRunning order l s ρ r
   names_running r f = record {
-    some_runs = λ k e. let h = f.found k e in let p = runs_on_parts k h.1 in (h.0, p.0, p.1);
+    some_runs = λ k e. let h = found_below _ l.count k (sym f ∙ e) in let p = runs_on_parts k h.1 in (h.0, p.0, p.1);
     no_other = λ k e j jl ej rj.
-        let h = f.found k e in
+        let h = found_below _ l.count k (sym f ∙ e) in
         let p = runs_on_parts k h.1 in
         not_two j k jl h.0 ej p.0 rj p.1;
     none_ready = λ e k kl ek rk.
         let o = some_runs k kl ek rk in
-        both_ways (runs_on order l s.records ρ o.0) (f.none e o.0 o.1) (runs_on_from o.0 o.2 o.3);
+        both_ways (runs_on order l s.records ρ o.0) (none_below _ l.count (sym f ∙ e) o.0 o.1) (runs_on_from o.0 o.2 o.3);
   }

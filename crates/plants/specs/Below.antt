@@ -1,17 +1,15 @@
 -- A test at the numbers below another.
-use Rattle.std.specs.Prelude.{◌≡◌, ℕ, zero, suc, ◌<◌, Bool, true, false, ◌&&◌, ◌||◌, Some, None, Option}
+use Rattle.std.specs.Prelude.{ℕ, Bool, Option}
+use Rattle.std.specs.List.{list_all, list_any, find, range_with_len}
 
 -- the test passes at every number below n
 abbrev pub all_below : (ℕ → Bool) → ℕ → Bool
-all_below p zero = true
-all_below p (suc n) = p n && all_below p n
+all_below p n = list_all p (range_with_len 0 n)
 
 -- the test passes at some number below n
 abbrev pub any_below : (ℕ → Bool) → ℕ → Bool
-any_below p zero = false
-any_below p (suc n) = p n || any_below p n
+any_below p n = list_any p (range_with_len 0 n)
 
--- r is a number below n at which the test passes, or there is none
-pub record Finds (p : ℕ → Bool) (n : ℕ) (r : Option ℕ) : Type 0 where
-  pub found : (k : ℕ) → r ≡ Some k → (k < n) × (p k ≡ true)
-  pub none : r ≡ None → (k : ℕ) → k < n → p k ≡ false
+-- the first number below n at which the test passes
+abbrev pub first_below : (ℕ → Bool) → ℕ → Option ℕ
+first_below p n = find p (range_with_len 0 n)

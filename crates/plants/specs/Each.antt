@@ -1,6 +1,6 @@
 -- A loop that makes each task's record anew ends at `each`, and records so made are those of `each`.
 use Rattle.std.specs.Prelude.{◌≡◌, ℕ, ◌+◌, ◌<◌, ◌≤◌, cond, ◌≢◌, List, length, nat_lt, slice_set}
-use Rattle.std.proofs.Common.{ap, ◌∙◌, arith, length-set, get_or-set_same, get_or-set_other}
+use Rattle.std.proofs.Common.{ap, subst, ◌∙◌, arith, length-set, get_or-set_same, get_or-set_other}
 use Rattle.std.proofs.Math.Path.{sym}
 use Rattle.std.proofs.Math.Logic.{⊎_elim}
 use Rattle.std.proofs.lemmas.Bool.{cases_lt, cases_eq, cond-true, cond-false, lt-ltb, le-ltb}
@@ -56,6 +56,9 @@ module _ (f : ℕ → Record → Record) (rs : List Record) where
         (cases_eq k i);
     rest = λ k h. let ne : k ≢ i = omega arith in get_or-set_other xs i k r blank ne ∙ u.rest k (omega arith);
   }
+
+  pub upto_step : (i : ℕ) (xs ys : List Record) → i < most_tasks → Upto f rs i xs → ys ≡ slice_set xs i (f i (at xs i)) → Upto f rs (i + 1) ys
+  upto_step i xs ys lt u e = subst (Upto f rs (i + 1)) (sym e) (upto_more i xs (f i (at xs i)) lt u (ap (f i) (u.rest i (omega arith))))
 
   pub upto_all : (n i : ℕ) (xs : List Record) → i ≡ n → Upto f rs i xs → xs ≡ each n f rs
   upto_all n i xs e u =

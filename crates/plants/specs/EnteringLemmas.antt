@@ -1,21 +1,20 @@
 -- An entry passes the tests, one after the other, exactly when it enters.
-use Rattle.std.specs.Prelude.{◌≡◌, ℕ, zero, suc, ◌+◌, ◌-◌, ◌/◌, ◌%◌, ◌^◌, ◌<◌, ◌≤◌, Bool, true, false, cond, not, Some, None, Option, ◌==◌, nat_eq, nat_le, nat_lt, refl}
-use Rattle.std.proofs.Common.{ap, sym, ◌∙◌, ⊎_elim, arith}
+use Rattle.std.specs.Prelude.{◌≡◌, ℕ, zero, suc, ◌+◌, ◌-◌, ◌/◌, ◌%◌, ◌^◌, ◌<◌, ◌≤◌, Bool, true, false, cond, not, Some, None, Option, Ok, Err, ◌==◌, nat_eq, nat_le, nat_lt, refl}
+use Rattle.std.proofs.Common.{ap, sym, subst, ◌∙◌, ⊎_elim, arith}
 use Rattle.std.proofs.Math.Nat.{two-pow-succ}
 use Rattle.std.proofs.lemmas.Nat.{leading_top, pow_pos, shr-shr, shr_le, le-div, div_below}
 use Rattle.std.proofs.lemmas.Bool.{and_from, and_parts, both_ways, not_from_true, eqb-false, eq-eqb, ne_eqb, leb-false, ltb-false, lt-leb, le-leb, le-ltb, cases_lt, cond-false}
 use Rattle.std.proofs.lemmas.Bool.Decides.{nat_tests}
 use Rattle.policies.specs.Classes.{classes}
 use Rattle.policies.specs.Orders.{earliest_deadline, preemptive}
-use Rattle.systems.specs.Lowest.{lowest}
-use Rattle.systems.specs.Outcomes.{answer_of, accepts}
-use Rattle.systems.specs.declared.outcome.Outcome.{Outcome}
-use Rattle.systems.specs.declared.outcome.Outcome.TheVariants.{Accepted, FieldOutside, NoRoom, NotEntered, GapsUnlike}
-use Rattle.systems.proofs.Lowest.{refuted, lowest_none, lowest_past}
+use Rattle.std.specs.List.{find, range_with_len}
+use Rattle.systems.specs.Outcomes.{Outcome, answer_of, accepts}
+use Rattle.systems.specs.declared.outcome.Refusal.TheVariants.{FieldOutside, NoRoom, NotEntered, GapsUnlike}
+use Rattle.systems.proofs.Lowest.{refuted}
 use Rattle.plants.specs.Limits.{most_ticks, most_resources, most_tasks}
 use Rattle.plants.specs.Bits.{bit}
 use Rattle.plants.specs.Layouts.{is_within, unlike}
-use Rattle.plants.specs.Entries.{resource_comes_to, task_comes_to, outside_field, if_inside}
+use Rattle.plants.specs.Entries.{resource_comes_to, task_comes_to, outside_field, if_inside, if_alike}
 use Rattle.plants.specs.Entering.{EntersResource, OneGap, EntersTask, EnteredExactly}
 use Rattle.plants.specs.declared.layout.TaskEntry.{TaskEntry}
 use Rattle.plants.specs.declared.layout.Layout.{Layout}
@@ -27,7 +26,7 @@ passed false x y n h = (refl, h)
 
 inside : (o : Option ℕ) (rest : Outcome) → accepts (if_inside o rest) ≡ true → (o ≡ None) × (accepts rest ≡ true)
 inside None rest h = (refl, h)
-inside (Some field) rest h = absurd (both_ways (accepts (FieldOutside field)) refl h)
+inside (Some field) rest h = absurd (both_ways (accepts (Err (FieldOutside field))) refl h)
 
 not_outside : (o : Option ℕ) (rest : Outcome) → o ≡ None → if_inside o rest ≡ rest
 not_outside o rest e = ap (λ q. if_inside q rest) e
@@ -36,8 +35,27 @@ none : (b : Bool) (field : ℕ) (o : Option ℕ) → cond b (Some field) o ≡ N
 none true field o h = let z : ◌≡◌ {A = ℕ} 0 1 = cc in absurd (omega arith)
 none false field o h = (refl, h)
 
+no_unlike : (o : Option ℕ) (number : ℕ) → accepts (if_alike o (Ok number)) ≡ true → o ≡ None
+no_unlike None number h = refl
+no_unlike (Some needed) number h = absurd (both_ways (accepts (Err (GapsUnlike needed))) refl h)
+
+-- a search that finds none, and one that can find none
+module _ (p : ℕ → Bool) where
+  none_found : (n a : ℕ) → find p (range_with_len a n) ≡ None → (k : ℕ) → a ≤ k → k < a + n → p k ≡ false
+  none_found zero a h k le lt = absurd (omega arith)
+  none_found (suc n) a h k le lt =
+      let r = none (p a) a _ h in
+      ⊎_elim
+      (λ (past : a < k). none_found n (a + 1) r.1 k (omega arith) (omega arith))
+      (λ (ge : k ≤ a). let same : a ≡ k = omega arith in subst (λ j. p j ≡ false) same r.0)
+      (cases_lt a k)
+
+  found_none : (n a : ℕ) → ((k : ℕ) → p k ≡ false) → find p (range_with_len a n) ≡ None
+  found_none zero a f = refl
+  found_none (suc n) a f = cond-false (p a) _ _ (f a) ∙ found_none n (a + 1) f
+
 -- an answer whose outcome is accepted exactly when what is asked for enters
-pub exactly : (Enters : Type 0) (number : ℕ) (o : Outcome) (answer : ℕ × ℕ) → answer ≡ answer_of o → (accepts o ≡ true → Enters) → (Enters → o ≡ Accepted number) → EnteredExactly Enters number answer
+pub exactly : (Enters : Type 0) (number : ℕ) (o : Outcome) (answer : ℕ × ℕ) → answer ≡ answer_of o → (accepts o ≡ true → Enters) → (Enters → o ≡ Ok number) → EnteredExactly Enters number answer
 exactly Enters number o answer e f g = record {
   accepted = λ z. f (eq-eqb _ _ (sym (ap (λ (q : ℕ × ℕ). q.0) e) ∙ z));
   enters = λ h. e ∙ ap answer_of (g h);
@@ -48,12 +66,12 @@ exactly Enters number o answer e f g = record {
 module _ (l : Layout) (policy preempt : ℕ) where
   pub resource_enters : l.resource_count ≤ most_resources → accepts (resource_comes_to l policy preempt) ≡ true → EntersResource l policy preempt
   resource_enters few h =
-      let room = passed (l.resource_count == most_resources) NoRoom _ refl h in
-      let known = passed (nat_lt earliest_deadline policy) (FieldOutside 1) _ refl room.1 in
-      let flag = passed (nat_lt preemptive preempt) (FieldOutside 2) _ refl known.1 in
+      let room = passed (l.resource_count == most_resources) (Err NoRoom) _ refl h in
+      let known = passed (nat_lt earliest_deadline policy) (Err (FieldOutside 1)) _ refl room.1 in
+      let flag = passed (nat_lt preemptive preempt) (Err (FieldOutside 2)) _ refl known.1 in
       record { room = omega (arith, eqb-false _ _ room.0); policy_known = ltb-false _ _ known.0; preempt_known = ltb-false _ _ flag.0 }
 
-  pub enters_resource : EntersResource l policy preempt → resource_comes_to l policy preempt ≡ Accepted l.resource_count
+  pub enters_resource : EntersResource l policy preempt → resource_comes_to l policy preempt ≡ Ok l.resource_count
   enters_resource h =
       cond-false _ _ _ (ne_eqb _ _ (λ (e : l.resource_count ≡ most_resources). omega arith)) ∙ cond-false _ _ _ (le-ltb _ _ h.policy_known) ∙ cond-false _ _ _ (le-ltb _ _ h.preempt_known)
 
@@ -104,7 +122,7 @@ module _ (l : Layout) (e : TaskEntry) (j : ℕ) where
 module _ (l : Layout) (e : TaskEntry) where
   pub admitted : accepts (task_comes_to l e) ≡ true → l.count ≤ most_tasks → EntersTask l e
   admitted h few =
-      let room = passed (l.count == most_tasks) NoRoom _ refl h in
+      let room = passed (l.count == most_tasks) (Err NoRoom) _ refl h in
       let fields = inside (outside_field e) _ room.1 in
       let f1 = none (not (is_within 0 most_ticks e.offset)) 1 _ fields.0 in
       let f2 = none (not (is_within 1 most_ticks e.least)) 2 _ f1.1 in
@@ -113,10 +131,9 @@ module _ (l : Layout) (e : TaskEntry) where
       let f5 = none (not (is_within e.best most_ticks e.worst)) 5 _ f4.1 in
       let f6 = none (not (is_within 1 e.least e.deadline)) 6 _ f5.1 in
       let f7 = none (nat_le classes e.class) 7 _ f6.1 in
-      let on = passed (nat_le l.resource_count e.resource) (NotEntered 8) _ refl fields.1 in
-      let earlier = passed (nat_lt 0 (e.needs / 2 ^ l.count)) (NotEntered 9) _ refl on.1 in
-      let unlike_at = lowest (unlike l e) l.count in
-      let alike = passed (nat_lt unlike_at l.count) (GapsUnlike unlike_at) _ refl earlier.1 in
+      let on = passed (nat_le l.resource_count e.resource) (Err (NotEntered 8)) _ refl fields.1 in
+      let earlier = passed (nat_lt 0 (e.needs / 2 ^ l.count)) (Err (NotEntered 9)) _ refl on.1 in
+      let alike = no_unlike (find (unlike l e) (range_with_len 0 l.count)) l.count earlier.1 in
       record {
         room = omega (arith, eqb-false _ _ room.0);
         offset = (within f1.0).1;
@@ -129,13 +146,13 @@ module _ (l : Layout) (e : TaskEntry) where
         resource = leb-false _ _ on.0;
         needs = λ j b.
             let lt = bits_below e.needs l.count (ltb-false _ _ earlier.0) j b in
-            (lt, like_gap l e j (lowest_none (unlike l e) l.count (ltb-false _ _ alike.0) j lt) b);
+            (lt, like_gap l e j (none_found (unlike l e) l.count 0 alike j (omega arith) (omega arith)) b);
       }
     where
       within : {low high x : ℕ} → not (is_within low high x) ≡ false → (low ≤ x) × (x ≤ high)
       within {low} {high} {x} f = grind (arith, nat_tests)
 
-  pub enters_task : EntersTask l e → task_comes_to l e ≡ Accepted l.count
+  pub enters_task : EntersTask l e → task_comes_to l e ≡ Ok l.count
   enters_task h =
       let in_range : (low high x : ℕ) → low ≤ x → x ≤ high → not (is_within low high x) ≡ false = λ low high x a b. not_from_true _ (and_from _ _ (le-leb _ _ a) (le-leb _ _ b)) in
       let fields : outside_field e ≡ None =
@@ -144,8 +161,7 @@ module _ (l : Layout) (e : TaskEntry) where
       ∙ cond-false _ _ _ (in_range 1 most_ticks e.best h.best.0 h.best.1)
       ∙ cond-false _ _ _ (in_range e.best most_ticks e.worst h.worst.0 h.worst.1)
       ∙ cond-false _ _ _ (in_range 1 e.least e.deadline h.deadline.0 h.deadline.1) ∙ cond-false _ _ _ (lt-leb _ _ h.class) in
-      let alike = lowest_past (unlike l e) 0 l.count refl (omega arith) (λ j _ _. gap_like l e j (λ b. (h.needs j b).1)) in
-      let past : l.count ≤ lowest (unlike l e) l.count = omega arith in
+      let alike = found_none (unlike l e) l.count 0 (λ j. gap_like l e j (λ b. (h.needs j b).1)) in
       cond-false _ _ _ (ne_eqb _ _ (λ (q : l.count ≡ most_tasks). omega arith)) ∙ not_outside (outside_field e) _ fields
       ∙ cond-false _ _ _ (lt-leb _ _ h.resource) ∙ cond-false _ _ _ (le-ltb _ _ (none_above e.needs l.count (λ j b. (h.needs j b).0)))
-      ∙ cond-false _ _ _ (le-ltb _ _ past)
+      ∙ ap (λ o. if_alike o (Ok l.count)) alike

@@ -1,11 +1,10 @@
 -- What an entry into a draft comes to, and what it leaves.
-use Rattle.std.specs.Prelude.{ℕ, ◌/◌, ◌^◌, cond, not, Some, None, Option, ◌==◌, nat_le, nat_lt}
+use Rattle.std.specs.Prelude.{ℕ, ◌/◌, ◌^◌, cond, not, Some, None, Option, Ok, Err, ◌==◌, nat_le, nat_lt}
 use Rattle.policies.specs.Classes.{classes}
 use Rattle.policies.specs.Orders.{earliest_deadline, preemptive}
-use Rattle.systems.specs.Lowest.{lowest}
-use Rattle.systems.specs.Outcomes.{accepts}
-use Rattle.systems.specs.declared.outcome.Outcome.{Outcome}
-use Rattle.systems.specs.declared.outcome.Outcome.TheVariants.{Accepted, FieldOutside, NoRoom, NotEntered, GapsUnlike}
+use Rattle.std.specs.List.{find, range_with_len}
+use Rattle.systems.specs.Outcomes.{Outcome, accepts}
+use Rattle.systems.specs.declared.outcome.Refusal.TheVariants.{FieldOutside, NoRoom, NotEntered, GapsUnlike}
 use Rattle.plants.specs.Limits.{most_ticks, most_resources, most_tasks}
 use Rattle.plants.specs.Layouts.{is_within, unlike, entered, with_task, with_resource}
 use Rattle.plants.specs.declared.layout.TaskEntry.{TaskEntry}
@@ -14,8 +13,8 @@ use Rattle.plants.specs.declared.layout.Layout.{Layout}
 -- a policy number is 0 to 2, and a preempt number 0 or 1
 abbrev pub resource_comes_to : Layout → ℕ → ℕ → Outcome
 resource_comes_to l policy preempt =
-    cond (l.resource_count == most_resources) NoRoom
-    (cond (nat_lt earliest_deadline policy) (FieldOutside 1) (cond (nat_lt preemptive preempt) (FieldOutside 2) (Accepted l.resource_count)))
+    cond (l.resource_count == most_resources) (Err NoRoom)
+    (cond (nat_lt earliest_deadline policy) (Err (FieldOutside 1)) (cond (nat_lt preemptive preempt) (Err (FieldOutside 2)) (Ok l.resource_count)))
 
 abbrev pub after_resource : Layout → ℕ → ℕ → Layout
 after_resource l policy preempt =
@@ -34,17 +33,22 @@ outside_field e =
 
 -- what stands where no field is outside its range
 abbrev pub if_inside : Option ℕ → Outcome → Outcome
-if_inside (Some field) o = FieldOutside field
+if_inside (Some field) o = Err (FieldOutside field)
 if_inside None o = o
+
+-- what stands where no needed task has unlike gaps
+abbrev pub if_alike : Option ℕ → Outcome → Outcome
+if_alike (Some needed) o = Err (GapsUnlike needed)
+if_alike None o = o
 
 -- a needed task that is not entered is a bit at or above the place of the count
 abbrev pub task_comes_to : Layout → TaskEntry → Outcome
 task_comes_to l e =
-    cond (l.count == most_tasks) NoRoom
+    cond (l.count == most_tasks) (Err NoRoom)
     (if_inside (outside_field e)
-    (cond (nat_le l.resource_count e.resource) (NotEntered 8)
-    (cond (nat_lt 0 (e.needs / 2 ^ l.count)) (NotEntered 9)
-    (cond (nat_lt (lowest (unlike l e) l.count) l.count) (GapsUnlike (lowest (unlike l e) l.count)) (Accepted l.count)))))
+    (cond (nat_le l.resource_count e.resource) (Err (NotEntered 8))
+    (cond (nat_lt 0 (e.needs / 2 ^ l.count)) (Err (NotEntered 9))
+    (if_alike (find (unlike l e) (range_with_len 0 l.count)) (Ok l.count)))))
 
 abbrev pub after_task : Layout → TaskEntry → Layout
 after_task l e = cond (accepts (task_comes_to l e)) (with_task l (entered e)) l

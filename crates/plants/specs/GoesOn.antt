@@ -5,7 +5,7 @@ use Rattle.std.proofs.Common.{sym, ◌∙◌}
 use native.Mathlib.Omega.{arith}
 use Rattle.std.proofs.lemmas.Bool.Decides.{nat_tests}
 use Rattle.std.proofs.lemmas.Bool.{and_from, cond-true, cond-false, lt-ltb, le-ltb, not_from_false}
-use Rattle.plants.specs.Bits.{bit}
+use Rattle.plants.specs.Bits.{bit, bits_below}
 use Rattle.plants.specs.Layouts.{task_at, in_ranges}
 use Rattle.plants.specs.Records.{at, released, grown_by}
 use Rattle.plants.specs.Tick.{Order, release_in, release_obeys, finish_in, finish_obeys, state_fits, state_bad, choice_legal, task_runs, claiming, after_releases, after_readying}
@@ -18,7 +18,7 @@ use Rattle.plants.specs.Each.{made_each}
 use Rattle.plants.specs.Entered.{Valid}
 use Rattle.plants.specs.Steps.{all_from}
 use Rattle.plants.specs.Ticks.{within, released_made}
-use Rattle.plants.specs.Choice.{choice_of, choice_bit, choice_below, four_pow}
+use Rattle.plants.specs.Choice.{bits_are, bits_low, four_pow}
 
 -- a task that must be released
 abbrev due : Task → Phase → ℕ → Bool
@@ -51,7 +51,7 @@ module _ (order : Order) (l : Layout) (rs : List Record) (v : Valid l) where
 
   -- the records after rule 2, by the releases that are due
   claims : List Record
-  claims = claiming l (choice_of releases l.count) rs
+  claims = claiming l (bits_below releases l.count) rs
 
   finishes : ℕ → Bool
   finishes i = task_runs order l claims i && (grown_by (task_runs order l claims i) (at claims i)).run == (task_at l i).worst
@@ -60,25 +60,25 @@ module _ (order : Order) (l : Layout) (rs : List Record) (v : Valid l) where
   bits i = cond (nat_lt i l.count) (releases i) (finishes (i - l.count))
 
   choice : ℕ
-  choice = choice_of bits (l.count + l.count)
+  choice = bits_below bits (l.count + l.count)
 
   release_bit : (i : ℕ) → i < l.count → bit choice i ≡ releases i
   unfolding choice bits
-  release_bit i lt = choice_bit bits (l.count + l.count) i (omega arith) ∙ cond-true _ _ _ (lt-ltb i l.count lt)
+  release_bit i lt = bits_are bits (l.count + l.count) i (omega arith) ∙ cond-true _ _ _ (lt-ltb i l.count lt)
 
   finish_bit : (i : ℕ) → i < l.count → bit choice (l.count + i) ≡ finishes i
   unfolding choice bits
   finish_bit i lt =
       let back : (l.count + i) - l.count ≡ i = omega arith in
-      choice_bit bits (l.count + l.count) (l.count + i) (omega arith) ∙ cond-false _ _ _ (le-ltb (l.count + i) l.count (omega arith)) ∙ ap finishes back
+      bits_are bits (l.count + l.count) (l.count + i) (omega arith) ∙ cond-false _ _ _ (le-ltb (l.count + i) l.count (omega arith)) ∙ ap finishes back
 
   -- the finish bits do not change which tasks are released
-  same_releases : after_releases l choice rs ≡ after_releases l (choice_of releases l.count) rs
+  same_releases : after_releases l choice rs ≡ after_releases l (bits_below releases l.count) rs
   same_releases =
       let m = released_made l v rs choice in
-      made_each (λ i r. cond (bit (choice_of releases l.count) i) released r) rs l.count (after_releases l choice rs) (record {
+      made_each (λ i r. cond (bit (bits_below releases l.count) i) released r) rs l.count (after_releases l choice rs) (record {
         long = m.long;
-        entered = λ k lt. m.entered k lt ∙ ap (λ b. cond b released (at rs k)) (release_bit k lt ∙ sym (choice_bit releases l.count k lt));
+        entered = λ k lt. m.entered k lt ∙ ap (λ b. cond b released (at rs k)) (release_bit k lt ∙ sym (bits_are releases l.count k lt));
         others = m.others;
       })
 
@@ -101,7 +101,7 @@ module _ (order : Order) (l : Layout) (rs : List Record) (v : Valid l) where
 
   in_range : choice < 4 ^ l.count
   unfolding choice
-  in_range = subst (λ k. choice_of bits (l.count + l.count) < k) (four_pow l.count) (choice_below bits (l.count + l.count))
+  in_range = subst (λ k. bits_below bits (l.count + l.count) < k) (four_pow l.count) (bits_low bits (l.count + l.count))
 
   choice_is_legal : state_fits l rs ≡ true → state_bad l rs ≡ false → choice_legal order l choice rs ≡ true
   choice_is_legal f b =

@@ -1,21 +1,23 @@
 -- The numbers of a plant's states obey the law of systems that can be logged.
-use Rattle.std.specs.Prelude.{◌≡◌, ℕ, zero, suc, ◌+◌, ◌*◌, ◌/◌, ◌%◌, ◌<◌, ◌≤◌, true, false, List, map, length, Some, None, ◌==◌, slice_index, refl}
+use Rattle.std.specs.Prelude.{◌≡◌, ℕ, zero, suc, ◌+◌, ◌*◌, ◌/◌, ◌%◌, ◌<◌, ◌≤◌, true, List, [], ◌∷◌, length, take, Some, ◌==◌, nat_le, slice_index, refl}
 use Rattle.std.proofs.Math.Path.{ap, sym}
-use Rattle.std.proofs.Common.{◌∙◌, ⊎_elim}
+use Rattle.std.proofs.Common.{◌∙◌, subst}
 use native.Mathlib.Omega.{arith}
-use Rattle.std.specs.List.{range_with_len}
-use Rattle.std.proofs.lemmas.List.FromFn.{fill_by_all, get_or-map-range_with_len, length-map-range_with_len}
-use Rattle.std.proofs.lemmas.List.{get_or-replicate}
-use Rattle.std.proofs.lemmas.Bool.{and_parts, and_from, cases_Bool, cond-true, cond-false, eq-eqb, eqb-true, le-leb, leb-true}
+use native.Mathlib.Numerals.{unary_clauses}
+use Rattle.std.specs.List.{flat_map}
+use Rattle.std.proofs.lemmas.List.{ext_get_or, get_or-replicate, get_or-take, length-take-le}
+use Rattle.std.proofs.lemmas.List.Concat.{get_or-flat_map}
+use Rattle.std.proofs.lemmas.Option.{cond_some}
+use Rattle.std.proofs.lemmas.Bool.{and_parts, and_from, cond-true, eq-eqb, eqb-true, le-leb, leb-true}
 use Rattle.lines.specs.Spelling.{largest, small}
 use Rattle.lines.specs.Logging.{Numbered}
-use Rattle.plants.specs.Limits.{most_tasks}
+use Rattle.plants.specs.Limits.{most_ticks, most_tasks}
 use Rattle.plants.specs.Below.{all_below}
-use Rattle.plants.specs.Records.{phase_number, phase_of, blank, first_state, at, each, Low}
+use Rattle.plants.specs.Records.{phase_number, phase_of, is_phase, blank, first_state, at, each, Low}
 use Rattle.plants.specs.Tick.{Order, state_fits}
 use Rattle.plants.specs.Rules.{Fits}
 use Rattle.plants.specs.Meanings.{plant_meaning}
-use Rattle.plants.specs.Numbers.{per_task, record_numbers, number_at, state_numbers, record_of, is_phase, is_phase_at, is_state, state_with, state_of}
+use Rattle.plants.specs.Numbers.{per_task, record_numbers, state_numbers, record_of, is_phase_at, is_state, state_with, state_of}
 use Rattle.plants.specs.declared.layout.Layout.{Layout}
 use Rattle.plants.specs.declared.state.Phase.{Phase}
 use Rattle.plants.specs.declared.state.Phase.TheVariants.{Before, Done, Held, Ready}
@@ -45,33 +47,37 @@ number_back (suc (suc (suc (suc n)))) h = absurd (omega (arith, leb-true _ _ h))
 
 -- The numbers of records are small
 
-low_number : (r : Record) → Low r → (j : ℕ) → slice_index (record_numbers r) j ≤ largest
-low_number r low zero = omega (arith, phase_low r.phase)
-low_number r low (suc zero) = omega (arith, low.since)
-low_number r low (suc (suc zero)) = omega (arith, low.run)
-low_number r low (suc (suc (suc zero))) = omega (arith, low.waited)
-low_number r low (suc (suc (suc (suc j)))) = omega arith
-
-small_map : (f : ℕ → ℕ) (a n : ℕ) → ((k : ℕ) → k < a + n → f k ≤ largest) → small (map f (range_with_len a n)) ≡ true
-small_map f a zero h = refl
-small_map f a (suc n) h = and_from _ _ (le-leb _ _ (h a (omega arith))) (small_map f (a + 1) n (λ k lt. h k (omega arith)))
+small_numbers : (rs : List Record) → ((k : ℕ) → k < length rs → Low (at rs k)) → small (flat_map record_numbers rs) ≡ true
+small_numbers [] h = refl
+small_numbers (r ∷ rs) h =
+    let low : Low r = h 0 (omega arith) in
+    let b : (n : ℕ) → n ≤ most_ticks → nat_le n largest ≡ true = λ n le. le-leb n largest (omega arith) in
+    and_from _ _ (b (phase_number r.phase) (omega (arith, phase_low r.phase)))
+    (and_from _ _ (b r.since low.since)
+    (and_from _ _ (b r.run low.run) (and_from _ _ (b r.waited low.waited) (small_numbers rs (λ k lt. simp unary_clauses at (h (k + 1) (omega arith)))))))
 
 -- From records to numbers and back
 
-module _ (rs : List Record) (n : ℕ) where
+length_fours : (rs : List Record) → length (flat_map record_numbers rs) ≡ per_task * length rs
+length_fours [] = refl
+length_fours (r ∷ rs) = omega (arith, length_fours rs)
+
+module _ (rs : List Record) (n : ℕ) (enough : n ≤ length rs) where
   length_numbers : length (state_numbers n rs) ≡ per_task * n
   unfolding state_numbers
-  length_numbers = length-map-range_with_len (number_at rs) 0 (per_task * n)
+  length_numbers = omega (arith, length_fours (take n rs), length-take-le n rs enough)
 
   -- number j of record i stands at place 4 * i + j
   number_there : (i j k : ℕ) → i < n → j < per_task → k ≡ per_task * i + j → slice_index (state_numbers n rs) k ≡ slice_index (record_numbers (at rs i)) j
   unfolding state_numbers
   number_there i j k h b e =
-      let quotient : k / per_task ≡ i = omega arith in
-      let rest : k % per_task ≡ j = omega arith in
-      get_or-map-range_with_len (number_at rs) 0 (per_task * n) k k 0 (omega arith) (omega arith)
-      ∙ ap (λ q. slice_index (record_numbers (at rs q)) (k % per_task)) quotient
-      ∙ ap (λ q. slice_index (record_numbers (at rs i)) q) rest
+      let xs = take n rs in
+      let front : length (flat_map record_numbers (take i xs)) ≡ per_task * i =
+      omega (arith, length_fours (take i xs), length-take-le i xs (omega (arith, length-take-le n rs enough)), length-take-le n rs enough) in
+      let place : k ≡ length (flat_map record_numbers (take i xs)) + j = omega arith in
+      ap (λ q. slice_index (flat_map record_numbers xs) q) place
+      ∙ get_or-flat_map record_numbers xs i j blank 0 (omega (arith, length-take-le n rs enough)) b
+      ∙ ap (λ r. slice_index (record_numbers r) j) (get_or-take n rs i blank h)
 
   record_back : (i : ℕ) → i < n → record_of (state_numbers n rs) i ≡ at rs i
   record_back i h =
@@ -110,28 +116,23 @@ restored_proper n ns p = cond-true _ _ _ (and_from _ _ (eq-eqb _ _ p.long) (all_
 
 proper_restored : (n : ℕ) (ns : List ℕ) (x : PlantState) → state_of n ns ≡ Some x → Proper n ns × (state_with n ns ≡ x)
 proper_restored n ns x e =
-    ⊎_elim
-    (λ (t : is_state n ns ≡ true).
-    let p = and_parts (length ns == per_task * n) (all_below (is_phase_at ns) n) t in
-    let s : Some (state_with n ns) ≡ Some x = sym (cond-true _ _ _ t) ∙ e in
-    let same : state_with n ns ≡ x = cc in
-    (record { long = eqb-true _ _ p.0; phases = all_at (is_phase_at ns) n p.1 }, same))
-    (λ (f : is_state n ns ≡ false).
-    let s : None ≡ Some x = sym (cond-false _ _ _ f) ∙ e in
-    let z : ◌≡◌ {A = ℕ} 0 1 = cc in absurd (omega arith))
-    (cases_Bool (is_state n ns))
+    let restored = cond_some (is_state n ns) (state_with n ns) x e in
+    let p = and_parts (length ns == per_task * n) (all_below (is_phase_at ns) n) restored.0 in
+    (record { long = eqb-true _ _ p.0; phases = all_at (is_phase_at ns) n p.1 }, restored.1)
 
 numbers_back : (n : ℕ) (ns : List ℕ) → n ≤ most_tasks → Proper n ns → ns ≡ state_numbers n (state_with n ns).records
-unfolding state_numbers state_with is_phase_at
+unfolding state_with is_phase_at
 numbers_back n ns few p =
     let rs = (state_with n ns).records in
-    fill_by_all (number_at rs) ns (per_task * n) 0 p.long
+    let made = each_made (λ i r. record_of ns i) first_state.records n few in
+    let enough : n ≤ length rs = omega (arith, made.long) in
+    ext_get_or 0 ns (state_numbers n rs) (p.long ∙ sym (length_numbers rs n enough))
     (λ k lt.
-    let low : k / per_task < n = omega arith in
+    let low : k / per_task < n = omega (arith, p.long) in
     let split : k ≡ per_task * (k / per_task) + k % per_task = omega arith in
     record_number ns (k / per_task) (k % per_task) k split (omega arith) (p.phases (k / per_task) low)
-    ∙ ap (λ (r : Record). slice_index (record_numbers r) (k % per_task))
-    (sym ((each_made (λ i r. record_of ns i) first_state.records n few).entered (k / per_task) low)))
+    ∙ ap (λ (r : Record). slice_index (record_numbers r) (k % per_task)) (sym (made.entered (k / per_task) low))
+    ∙ sym (number_there rs n enough (k / per_task) (k % per_task) k low (omega arith) split))
 
 -- The law at a state that fits
 
@@ -139,14 +140,19 @@ module _ (l : Layout) (v : Valid l) (s : PlantState) (f : state_fits l s.records
   fitting : Fits l s
   fitting = (fits_decides l s v.tasks_few).0 f
 
+  enough_records : l.count ≤ length s.records
+  enough_records = omega (arith, fitting.long, v.tasks_few)
+
   few_numbers : length (state_numbers l.count s.records) ≤ per_task * most_tasks
-  few_numbers = omega (arith, length_numbers s.records l.count, v.tasks_few)
+  few_numbers = omega (arith, length_numbers s.records l.count enough_records, v.tasks_few)
 
   numbers_small : small (state_numbers l.count s.records) ≡ true
   unfolding state_numbers
   numbers_small =
-      small_map (number_at s.records) 0 (per_task * l.count)
-      (λ k lt. low_number (at s.records (k / per_task)) (low_one l v s.records f (k / per_task) (omega arith)) (k % per_task))
+      small_numbers (take l.count s.records)
+      (λ k lt.
+      let below : k < l.count = omega (arith, length-take-le l.count s.records enough_records) in
+      subst Low (sym (get_or-take l.count s.records k blank below)) (low_one l v s.records f k below))
 
   restores : state_of l.count (state_numbers l.count s.records) ≡ Some s
   unfolding state_with
@@ -156,10 +162,10 @@ module _ (l : Layout) (v : Valid l) (s : PlantState) (f : state_fits l s.records
       let same : s.records ≡ each n (λ i r. record_of ns i) first_state.records =
       made_each (λ i r. record_of ns i) first_state.records n s.records (record {
         long = fitting.long;
-        entered = λ k lt. sym (record_back s.records n k lt);
+        entered = λ k lt. sym (record_back s.records n enough_records k lt);
         others = λ k lt le. fitting.others k lt le ∙ sym (get_or-replicate most_tasks k blank blank lt);
       }) in
-      restored_proper n ns (record { long = length_numbers s.records n; phases = phase_there s.records n })
+      restored_proper n ns (record { long = length_numbers s.records n enough_records; phases = phase_there s.records n enough_records })
       ∙ ap (λ (rs : List Record). Some (record { records = rs })) (sym same)
 
 pub plant_numbered : (order : Order) (l : Layout) → Valid l

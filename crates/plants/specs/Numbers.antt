@@ -1,8 +1,8 @@
 -- A plant's state as numbers: four for each entered task, in the order of the tasks.
-use Rattle.std.specs.Prelude.{ℕ, ◌+◌, ◌*◌, ◌/◌, ◌%◌, Bool, cond, ◌&&◌, List, [], ◌∷◌, map, length, Some, None, Option, ◌==◌, nat_le, slice_index}
-use Rattle.std.specs.List.{range_with_len}
+use Rattle.std.specs.Prelude.{ℕ, ◌+◌, ◌*◌, Bool, cond, ◌&&◌, List, [], ◌∷◌, length, take, Some, None, Option, ◌==◌, slice_index}
+use Rattle.std.specs.List.{flat_map}
 use Rattle.plants.specs.Below.{all_below}
-use Rattle.plants.specs.Records.{phase_number, phase_of, first_state, at, each}
+use Rattle.plants.specs.Records.{phase_number, phase_of, is_phase, first_state, each}
 use Rattle.plants.specs.declared.state.Record.{Record}
 use Rattle.plants.specs.declared.state.PlantState.{PlantState}
 
@@ -14,13 +14,9 @@ per_task = 4
 abbrev pub record_numbers : Record → List ℕ
 record_numbers r = phase_number r.phase ∷ r.since ∷ r.run ∷ r.waited ∷ []
 
--- number k of the records, where the four of each follow those of the one before
-abbrev pub number_at : List Record → ℕ → ℕ
-number_at rs k = slice_index (record_numbers (at rs (k / per_task))) (k % per_task)
-
--- the numbers of the first n records
+-- the numbers of the first n records, where the four of each follow those of the one before
 unfoldable pub state_numbers : ℕ → List Record → List ℕ
-state_numbers n rs = map (number_at rs) (range_with_len 0 (per_task * n))
+state_numbers n rs = flat_map record_numbers (take n rs)
 
 -- the record that the i-th four numbers are
 abbrev pub record_of : List ℕ → ℕ → Record
@@ -31,9 +27,9 @@ record_of ns i = record {
   waited = slice_index ns (per_task * i + 3);
 }
 
--- the number is that of a phase
-abbrev pub is_phase : ℕ → Bool
-is_phase n = nat_le n 3
+-- the record that four numbers are, if the first is that of a phase
+abbrev pub record_in : List ℕ → Option Record
+record_in ns = cond (is_phase (slice_index ns 0)) (Some (record_of ns 0)) None
 
 -- the i-th four numbers begin with that of a phase
 unfoldable pub is_phase_at : List ℕ → ℕ → Bool

@@ -1,10 +1,12 @@
 -- A record, and what a rule of the tick makes of it.
-use Rattle.std.specs.Prelude.{ℕ, ◌+◌, ◌≤◌, Bool, true, false, cond, ◌&&◌, List, [], ◌∷◌, map, replicate, ◌==◌, nat_lt, slice_index_or}
+use Rattle.std.specs.Prelude.{ℕ, ◌+◌, ◌≤◌, Bool, true, false, cond, ◌&&◌, List, map, replicate, ◌==◌, nat_le, Result, Ok, Err, nat_lt, slice_index_or}
 use Rattle.std.specs.List.{range_with_len}
+use Rattle.std.specs.Cmp.Lexicographic.{pointwise}
 use Rattle.plants.specs.Limits.{most_ticks, most_tasks}
 use Rattle.plants.specs.declared.state.Record.{Record}
 use Rattle.plants.specs.declared.state.PlantState.{PlantState}
 use Rattle.plants.specs.declared.state.Phase.{Phase}
+use Rattle.plants.specs.declared.state.UnknownPhase.{UnknownPhase}
 use Rattle.plants.specs.declared.state.Phase.TheVariants.{Before, Done, Held, Ready}
 
 abbrev pub phase_number : Phase → ℕ
@@ -13,9 +15,17 @@ phase_number Done = 1
 phase_number Held = 2
 phase_number Ready = 3
 
--- the phase of a number; whether the number is one of the four is tested apart from it
+-- the number is that of a phase
+abbrev pub is_phase : ℕ → Bool
+is_phase n = nat_le n 3
+
+-- the phase of a number that is that of a phase
 abbrev pub phase_of : ℕ → Phase
 phase_of n = cond (n == 0) Before (cond (n == 1) Done (cond (n == 2) Held Ready))
+
+-- the phase of a number, or the number where it is that of no phase
+abbrev pub phase_in : ℕ → Result Phase UnknownPhase
+phase_in n = cond (is_phase n) (Ok (phase_of n)) (Err (record { 0 = n }))
 
 abbrev pub is_before : Phase → Bool
 is_before Before = true
@@ -82,10 +92,7 @@ same_record x y =
     (phase_number x.phase == phase_number y.phase) && x.since == y.since && x.run == y.run && x.waited == y.waited
 
 abbrev pub same_records : List Record → List Record → Bool
-same_records [] [] = true
-same_records [] (y ∷ ys) = false
-same_records (x ∷ xs) [] = false
-same_records (x ∷ xs) (y ∷ ys) = same_record x y && same_records xs ys
+same_records = pointwise same_record
 
 -- no number of the record is above the greatest number of ticks, so that each has room to grow
 pub record Low (r : Record) : Type 0 where

@@ -1,6 +1,6 @@
 -- Eight worked schedules, as a list, and the one test that they all pass.
 use Rattle.std.specs.Prelude.{ℕ, ◌-◌, Bool, true, false, cond, ◌&&◌, List, [], ◌∷◌, ◌++◌, length, replicate, ◌==◌}
-use Rattle.std.specs.List.{range_with_len}
+use Rattle.std.specs.List.{range_with_len, filter, list_all}
 use Rattle.policies.specs.Orders.{site}
 use Rattle.systems.specs.Systems.{Meaning, led}
 use Rattle.plants.specs.Limits.{most_tasks}
@@ -79,13 +79,9 @@ same_numbers [] (y ∷ ys) = false
 same_numbers (x ∷ xs) [] = false
 same_numbers (x ∷ xs) (y ∷ ys) = x == y && same_numbers xs ys
 
-abbrev kept : (ℕ → Bool) → List ℕ → List ℕ
-kept p [] = []
-kept p (x ∷ xs) = cond (p x) (x ∷ kept p xs) (kept p xs)
-
 -- the legal ones of all the choices, in rising order
 abbrev legals : Meaning PlantState → PlantState → List ℕ
-legals m s = kept (m.legal s) (range_with_len 0 m.count)
+legals m s = filter (m.legal s) (range_with_len 0 m.count)
 
 abbrev all_legal : Meaning PlantState → PlantState → List ℕ → Bool
 all_legal m s [] = true
@@ -109,8 +105,7 @@ abbrev schedule_holds : Schedule → Bool
 schedule_holds e = all_entered e.plan && holds (system_of e.plan) (state e.from) e.says
 
 unfoldable pub all_hold : List Schedule → Bool
-all_hold [] = true
-all_hold (e ∷ es) = schedule_holds e && all_hold es
+all_hold es = list_all schedule_holds es
 
 -- The schedules; a list of no records is the first state
 

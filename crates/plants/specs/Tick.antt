@@ -1,5 +1,6 @@
 -- One tick of a plant, rule by rule.
-use Rattle.std.specs.Prelude.{ℕ, ◌+◌, ◌-◌, ◌^◌, Bool, cond, not, ◌&&◌, ◌||◌, List, length, ◌==◌, nat_le, nat_lt}
+use Rattle.std.specs.Prelude.{◌≡◌, ℕ, ◌+◌, ◌-◌, ◌^◌, ◌<◌, Bool, cond, not, ◌&&◌, ◌||◌, List, length, ◌==◌, nat_le, nat_lt, slice_set}
+use Rattle.std.specs.Borrow.{MutBor}
 use Rattle.policies.specs.declared.policy.Claim.{Claim}
 use Rattle.plants.specs.Limits.{most_tasks}
 use Rattle.plants.specs.Bits.{bit}
@@ -9,12 +10,24 @@ use Rattle.plants.specs.Records.{is_before, is_done, is_held, is_ready, released
 use Rattle.plants.specs.declared.layout.Task.{Task}
 use Rattle.plants.specs.declared.layout.Layout.{Layout}
 use Rattle.plants.specs.declared.state.Record.{Record}
+use Rattle.plants.specs.declared.state.PlantState.{PlantState}
 use Rattle.plants.specs.declared.state.Phase.{Phase}
 use Rattle.plants.specs.declared.state.Phase.TheVariants.{Before, Done, Held, Ready}
 
 -- a policy: an order of claims for each two numbers of a resource
 abbrev pub Order : Type 0
 Order = ℕ → ℕ → Claim → Claim → Bool
+
+-- A pass over the tasks
+
+-- below n the test gives p
+abbrev pub TestsBy : (ℕ → Bool → Type 0) → ℕ → (ℕ → Bool) → Type 0
+TestsBy gives n p = (i : ℕ) (b : Bool) → i < n → gives i b → b ≡ p i
+
+-- a call at i makes record i anew by f, and leaves the others
+abbrev pub ChangesBy : (MutBor PlantState → ℕ → MutBor PlantState → Type 0) → (Record → Record) → Type 0
+ChangesBy leaves f =
+    (s t : MutBor PlantState) (i : ℕ) → i < most_tasks → leaves s i t → t.now.records ≡ slice_set s.now.records i (f (at s.now.records i))
 
 -- Which states fit, and which are bad
 

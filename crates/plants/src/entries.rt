@@ -1,6 +1,6 @@
 // The calls of a draft: what an entry comes to, what it leaves, and fixing.
 ghost use Rattle.std.specs.Prelude.{◌≡◌, ℕ, ◌<◌, ◌≤◌, List};
-ghost use Rattle.systems.specs.Lowest.{lowest};
+ghost use Rattle.std.specs.List.{find, range_with_len};
 ghost use Rattle.systems.specs.Outcomes.{answer_of};
 ghost use Rattle.policies.specs.Classes.{classes};
 ghost use Rattle.plants.specs.Limits.{most_tasks, most_resources};
@@ -14,9 +14,10 @@ use crate::draft::DraftPlant;
 use crate::layout::{Layout, MOST_RESOURCES, MOST_TASKS, MOST_TICKS, Resource, Task, TaskEntry};
 use crate::plant::Plant;
 use policies::classes::priority;
+use policies::orders::Discipline;
 use policies::policy::Policy;
-use policies::site::{EARLIEST_DEADLINE, PREEMPTIVE};
-use systems::outcome::Outcome;
+use policies::site::Preemption;
+use systems::outcome::{Answer, Outcome, Refusal, answer};
 
 // The places of the fields resource and needs, from 1.
 const RESOURCE_FIELD: u32 = 8;
@@ -32,29 +33,21 @@ impl DraftPlant {
     }
 
     // Enters a resource and answers its number, or refuses it and changes nothing.
-    pub fn add_resource(&mut self, policy: u32, preempt: u32) -> (u32, usize)
+    pub fn add_resource(&mut self, policy: u32, preempt: u32) -> Answer
         ensures answer { result ≡ answer_of (resource_comes_to self.old.layout policy preempt) }
         ensures after { self.new.layout ≡ after_resource self.old.layout policy preempt }
         ensures exact { EnteredExactly (EntersResource self.old.layout policy preempt) self.old.layout.resource_count result }
     {
-        let outcome = resource_outcome(&self.layout, policy, preempt);
-        if let Outcome::Accepted(_) = outcome {
-            self.layout = with_resource(self.layout, Resource { policy, preempt });
-        }
-        outcome.answer()
+        answer(self.enter_resource(policy, preempt))
     }
 
     // Enters a task and answers its number, or refuses it and changes nothing.
-    pub fn add_task(&mut self, task: TaskEntry) -> (u32, usize)
+    pub fn add_task(&mut self, task: TaskEntry) -> Answer
         ensures answer { result ≡ answer_of (task_comes_to self.old.layout task) }
         ensures after { self.new.layout ≡ after_task self.old.layout task }
         ensures exact { EnteredExactly (EntersTask self.old.layout task) self.old.layout.count result }
     {
-        let outcome = task_outcome(&self.layout, &task);
-        if let Outcome::Accepted(_) = outcome {
-            self.layout = with_task(self.layout, &task);
-        }
-        outcome.answer()
+        answer(self.enter_task(&task))
     }
 
     // How many tasks are entered.
@@ -71,6 +64,91 @@ impl DraftPlant {
         ensures runs { (choices : List ℕ) → RunsChain (P.order result.policy) result.layout choices }
     {
         fixed(self, policy)
+    }
+
+    fn enter_resource(&mut self, policy: u32, preempt: u32) -> Outcome
+        ensures outcome { result ≡ resource_comes_to self.old.layout policy preempt }
+        ensures after { self.new.layout ≡ after_resource self.old.layout policy preempt }
+        ensures few { self.old.layout.resource_count ≤ most_resources }
+    {
+        let number = self.check_resource(policy, preempt)?;
+        self.layout.add_resource(Resource { policy, preempt });
+        Ok(number)
+    }
+
+    fn enter_task(&mut self, task: &TaskEntry) -> Outcome
+        ensures outcome { result ≡ task_comes_to self.old.layout task.now }
+        ensures after { self.new.layout ≡ after_task self.old.layout task.now }
+        ensures few { self.old.layout.count ≤ most_tasks }
+    {
+        let number = self.check_task(task)?;
+        self.layout.add_task(entered(task));
+        Ok(number)
+    }
+
+    // The number that the resource would have, or why it may not enter.
+    fn check_resource(&self, policy: u32, preempt: u32) -> Outcome
+        ensures { result ≡ resource_comes_to self.now.layout policy preempt }
+    {
+        let number = self.layout.resource_count;
+        if number == MOST_RESOURCES {
+            return Err(Refusal::NoRoom);
+        }
+        if Discipline::try_from(policy).is_err() {
+            return Err(Refusal::FieldOutside(1));
+        }
+        if Preemption::try_from(preempt).is_err() {
+            return Err(Refusal::FieldOutside(2));
+        }
+        Ok(number)
+    }
+
+    // The number that the task would have, or why it may not enter.
+    fn check_task(&self, task: &TaskEntry) -> Outcome
+        ensures { result ≡ task_comes_to self.now.layout task.now }
+    {
+        let number = self.layout.count;
+        if number == MOST_TASKS {
+            return Err(Refusal::NoRoom);
+        }
+        if let Some(field) = field_outside(task) {
+            return Err(Refusal::FieldOutside(field));
+        }
+        if task.resource as usize >= self.layout.resource_count {
+            return Err(Refusal::NotEntered(RESOURCE_FIELD));
+        }
+        if task.needs >> number > 0 {
+            return Err(Refusal::NotEntered(NEEDS_FIELD));
+        }
+        match self.first_unlike(task) {
+            Some(needed) => Err(Refusal::GapsUnlike(needed)),
+            None => Ok(number),
+        }
+    }
+
+    // The lowest needed task whose gaps are unlike the entry's.
+    fn first_unlike(&self, task: &TaskEntry) -> Option<usize>
+        ensures { result ≡ find (unlike self.now.layout task.now) (range_with_len 0 self.now.layout.count) }
+    {
+        (0..self.layout.count).find(|j| is_unlike(&self.layout, task, *j))
+    }
+}
+
+impl Layout {
+    fn add_resource(&mut self, resource: Resource)
+        requires { self.old.resource_count < most_resources }
+        ensures { self.new ≡ with_resource self.old resource }
+    {
+        self.resources[self.resource_count] = resource;
+        self.resource_count += 1;
+    }
+
+    fn add_task(&mut self, task: Task)
+        requires { self.old.count < most_tasks }
+        ensures { self.new ≡ with_task self.old task }
+    {
+        self.tasks[self.count] = task;
+        self.count += 1;
     }
 }
 
@@ -111,54 +189,7 @@ fn empty() -> Layout
 fn is_in(low: u32, high: u32, x: u32) -> bool
     ensures { result ≡ is_within low high x }
 {
-    low <= x && x <= high
-}
-
-fn resource_outcome(layout: &Layout, policy: u32, preempt: u32) -> Outcome
-    ensures { result ≡ resource_comes_to layout.now policy preempt }
-{
-    if layout.resource_count == MOST_RESOURCES {
-        Outcome::NoRoom
-    } else if policy > EARLIEST_DEADLINE {
-        Outcome::FieldOutside(1)
-    } else if preempt > PREEMPTIVE {
-        Outcome::FieldOutside(2)
-    } else {
-        Outcome::Accepted(layout.resource_count)
-    }
-}
-
-fn with_resource(mut layout: Layout, resource: Resource) -> Layout
-    requires { layout.resource_count < most_resources }
-    ensures { result ≡ with_resource layout resource }
-{
-    layout.resources[layout.resource_count] = resource;
-    layout.resource_count += 1;
-    layout
-}
-
-fn task_outcome(layout: &Layout, task: &TaskEntry) -> Outcome
-    requires { layout.now.count ≤ most_tasks }
-    ensures { result ≡ task_comes_to layout.now task.now }
-{
-    if layout.count == MOST_TASKS {
-        return Outcome::NoRoom;
-    }
-    if let Some(field) = field_outside(task) {
-        return Outcome::FieldOutside(field);
-    }
-    if task.resource as usize >= layout.resource_count {
-        return Outcome::NotEntered(RESOURCE_FIELD);
-    }
-    if task.needs >> layout.count > 0 {
-        return Outcome::NotEntered(NEEDS_FIELD);
-    }
-    let needed = first_unlike(layout, task);
-    if needed < layout.count {
-        Outcome::GapsUnlike(needed)
-    } else {
-        Outcome::Accepted(layout.count)
-    }
+    (low..=high).contains(&x)
 }
 
 // The first of the fields 1 to 7 that is outside its range.
@@ -184,19 +215,6 @@ fn field_outside(task: &TaskEntry) -> Option<u32>
     }
 }
 
-// The lowest needed task whose gaps are unlike the entry's, or the count of tasks.
-fn first_unlike(layout: &Layout, task: &TaskEntry) -> usize
-    requires { layout.now.count ≤ most_tasks }
-    ensures { result ≡ lowest (unlike layout.now task.now) layout.now.count }
-{
-    for j in 0..layout.count {
-        if is_unlike(layout, task, j) {
-            return j;
-        }
-    }
-    layout.count
-}
-
 // Whether the entry needs task j and the gaps of the two are not all one number.
 fn is_unlike(layout: &Layout, task: &TaskEntry, j: usize) -> bool
     requires { j < most_tasks }
@@ -208,11 +226,12 @@ fn is_unlike(layout: &Layout, task: &TaskEntry, j: usize) -> bool
         && !(task.greatest == gap && needed.least == gap && needed.greatest == gap)
 }
 
-fn with_task(mut layout: Layout, task: &TaskEntry) -> Layout
-    requires { (layout.count < most_tasks) × (task.now.class < classes) }
-    ensures { result ≡ with_task layout (entered task.now) }
+// The task that an entry with a class stands for.
+fn entered(task: &TaskEntry) -> Task
+    requires { task.now.class < classes }
+    ensures { result ≡ entered task.now }
 {
-    layout.tasks[layout.count] = Task {
+    Task {
         offset: task.offset,
         least: task.least,
         greatest: task.greatest,
@@ -222,7 +241,5 @@ fn with_task(mut layout: Layout, task: &TaskEntry) -> Layout
         priority: priority(task.class).unwrap(),
         resource: task.resource,
         needs: task.needs,
-    };
-    layout.count += 1;
-    layout
+    }
 }

@@ -8,14 +8,14 @@ pub const MOST_RESOURCES: usize = 4;
 
 pub const MOST_TASKS: usize = 8;
 
-#[derive(Clone, Copy)]
+#[derive(Clone, Copy, Debug, PartialEq, Eq)]
 pub struct Resource {
     pub policy: u32,
     pub preempt: u32,
 }
 
 // A task that was entered, with the priority of its class.
-#[derive(Clone, Copy)]
+#[derive(Clone, Copy, Debug, PartialEq, Eq)]
 pub struct Task {
     // ticks before the first release
     pub offset: u32,
@@ -34,7 +34,7 @@ pub struct Task {
 }
 
 // A task's nine fields as they are entered: a class stands in the place of the priority.
-#[derive(Clone, Copy)]
+#[derive(Clone, Copy, Debug, PartialEq, Eq)]
 pub struct TaskEntry {
     pub offset: u32,
     pub least: u32,
@@ -48,7 +48,7 @@ pub struct TaskEntry {
 }
 
 // The resources and tasks that were entered, from place 0, and how many there are of each.
-#[derive(Clone, Copy, Drop)]
+#[derive(Clone, Copy, Debug, PartialEq, Eq)]
 pub struct Layout {
     pub resources: [Resource; MOST_RESOURCES],
     pub resource_count: usize,

@@ -1,11 +1,13 @@
 // A plant's state: a record for each of the tasks that a plant can have.
 ghost use Rattle.std.specs.Prelude.{◌≡◌, ◌<◌, slice_set};
 ghost use Rattle.plants.specs.Limits.{most_tasks};
-ghost use Rattle.plants.specs.Records.{is_done, is_held, is_ready, phase_number, released, readied, grown_by, finished, at, Low};
+ghost use Rattle.plants.specs.Records.{phase_number, phase_in, released, readied, grown_by, finished, at, Low};
 
 use crate::layout::MOST_TASKS;
+use std::error::Error;
+use std::fmt;
 
-#[derive(Clone, Copy)]
+#[derive(Clone, Copy, Debug, PartialEq, Eq)]
 pub enum Phase {
     // not released yet
     Before,
@@ -17,48 +19,49 @@ pub enum Phase {
     Ready,
 }
 
-impl Phase {
-    // Before is 0, done 1, held 2 and ready 3.
-    pub fn number(self) -> u32
-        ensures { result ≡ phase_number self }
-    {
-        match self {
+// A number that is no phase's.
+#[derive(Clone, Copy, Debug, PartialEq, Eq)]
+pub struct UnknownPhase(pub u32);
+
+impl fmt::Display for UnknownPhase {
+    fn fmt<W: fmt::Write>(&self, f: &mut fmt::Formatter<W>) -> fmt::Result {
+        write!(f, "no phase has number {}", self.0)
+    }
+}
+
+impl Error for UnknownPhase {}
+
+// Before is 0, done 1, held 2 and ready 3.
+impl From<Phase> for u32 {
+    ghost from_gives = { λ phase number. number ≡ phase_number phase };
+
+    fn from(phase: Phase) -> u32 {
+        match phase {
             Phase::Before => 0,
             Phase::Done => 1,
             Phase::Held => 2,
             Phase::Ready => 3,
         }
     }
+}
 
-    pub(crate) fn is_done(self) -> bool
-        ensures { result ≡ is_done self }
-    {
-        match self {
-            Phase::Done => true,
-            _ => false,
-        }
-    }
+impl TryFrom<u32> for Phase {
+    type Error = UnknownPhase;
 
-    pub(crate) fn is_held(self) -> bool
-        ensures { result ≡ is_held self }
-    {
-        match self {
-            Phase::Held => true,
-            _ => false,
-        }
-    }
+    ghost try_from_gives = { λ number phase. phase ≡ phase_in number };
 
-    pub(crate) fn is_ready(self) -> bool
-        ensures { result ≡ is_ready self }
-    {
-        match self {
-            Phase::Ready => true,
-            _ => false,
+    fn try_from(number: u32) -> Result<Phase, UnknownPhase> {
+        match number {
+            0 => Ok(Phase::Before),
+            1 => Ok(Phase::Done),
+            2 => Ok(Phase::Held),
+            3 => Ok(Phase::Ready),
+            _ => Err(UnknownPhase(number)),
         }
     }
 }
 
-#[derive(Clone, Copy)]
+#[derive(Clone, Copy, Debug, PartialEq, Eq)]
 pub struct Record {
     pub phase: Phase,
     // ticks since the last release or, before the first one, since the start
@@ -69,7 +72,15 @@ pub struct Record {
     pub waited: u32,
 }
 
-#[derive(Clone, Copy)]
+// Four zeros.
+pub(crate) const BLANK: Record = Record {
+    phase: Phase::Before,
+    since: 0,
+    run: 0,
+    waited: 0,
+};
+
+#[derive(Clone, Copy, Debug, PartialEq, Eq)]
 pub struct PlantState {
     pub records: [Record; MOST_TASKS],
 }
@@ -82,9 +93,7 @@ impl PlantState {
     {
         self.records[i] = Record {
             phase: Phase::Held,
-            since: 0,
-            run: 0,
-            waited: 0,
+            ..BLANK
         };
     }
 
@@ -100,27 +109,25 @@ impl PlantState {
         requires { (i < most_tasks) × (Low (at self.old.records i)) }
         ensures { self.new.records ≡ slice_set self.old.records i (grown_by runs (at self.old.records i)) }
     {
-        let mut record = self.records[i];
+        let record = &mut self.records[i];
         record.since += 1;
-        if record.phase.is_ready() {
+        if record.phase == Phase::Ready {
             record.waited += 1;
         }
         if runs {
             record.run += 1;
         }
-        self.records[i] = record;
     }
 
     pub(crate) fn finish(&mut self, i: usize)
         requires { i < most_tasks }
         ensures { self.new.records ≡ slice_set self.old.records i (finished (at self.old.records i)) }
     {
-        let since = self.records[i].since;
         self.records[i] = Record {
             phase: Phase::Done,
-            since,
             run: 0,
             waited: 0,
+            ..self.records[i]
         };
     }
 }

@@ -10,7 +10,7 @@ ghost use Rattle.plants.specs.PlantLaws.{plant_laws};
 
 use crate::plant::Plant;
 use crate::state::PlantState;
-use crate::{candidates, states, tick};
+use crate::states;
 use policies::policy::Policy;
 use systems::system::System;
 
@@ -26,7 +26,7 @@ impl<P: Policy> System for Plant<P> {
     }
 
     fn count(&self) -> u32 {
-        tick::choices(&self.layout)
+        self.choices()
     }
 
     fn fits(&self, state: &PlantState) -> bool
@@ -40,30 +40,31 @@ impl<P: Policy> System for Plant<P> {
         ensures reply { result ≡ state_bad self.now.layout state.now.records }
         ensures rules { Decides result (Bad self.now.layout state.now) }
     {
-        states::is_bad(&self.layout, state)
+        self.has_late(state)
     }
 
     fn is_legal(&self, state: &PlantState, choice: u32) -> bool
         ensures reply { result ≡ choice_legal (P.Policy.order self.now.policy) self.now.layout choice state.now.records }
         ensures rules { LegalByRules (P.Policy.order self.now.policy) self.now.layout choice state.now result }
     {
-        tick::is_legal(&self.policy, &self.layout, state, choice)
+        self.allows(state, choice)
     }
 
     fn lowest_legal(&self, state: &PlantState, start: u32) -> Option<u32>
         ensures { LowestFrom (λ c. choice_legal (P.Policy.order self.now.policy) self.now.layout c state.now.records) start result }
     {
-        candidates::lowest_legal(&self.policy, &self.layout, state, start)
+        self.lowest_allowed(state, start)
     }
 
     fn next(&self, state: &PlantState, choice: u32) -> PlantState
         ensures reply { result.records ≡ next_records (P.Policy.order self.now.policy) self.now.layout choice state.now.records }
         ensures rules { NextByRules (P.Policy.order self.now.policy) self.now.layout choice state.now result }
     {
-        tick::next(&self.policy, &self.layout, *state, choice)
+        self.after_tick(*state, choice)
     }
 
+    // Stops at the first difference.
     fn same(&self, one: &PlantState, other: &PlantState) -> bool {
-        states::are_same(one, other)
+        one == other
     }
 }

@@ -1,24 +1,19 @@
 // One tick, rule by rule, under any policy.
-ghost use Rattle.std.specs.Prelude.{◌≡◌, ℕ, ◌+◌, ◌^◌, ◌<◌, ◌≤◌, true};
-ghost use Rattle.plants.specs.Limits.{most_tasks, most_resources};
+ghost use Rattle.std.specs.Prelude.{◌≡◌, ℕ, ◌^◌, ◌<◌, Bool, cond};
+ghost use Rattle.std.specs.Borrow.{MutBor};
+ghost use Rattle.plants.specs.declared.state.Record.{Record};
+ghost use Rattle.plants.specs.declared.state.PlantState.{PlantState};
+ghost use Rattle.plants.specs.Limits.{most_tasks};
 ghost use Rattle.plants.specs.Below.{all_below};
-ghost use Rattle.plants.specs.Layouts.{task_at, valid as layout_valid};
-ghost use Rattle.plants.specs.Records.{at, Low};
-ghost use Rattle.plants.specs.Tick.{release_in, release_obeys, after_releases, met_at, all_met, comes_ready, after_readying, claim_of, rivals, goes_before, ahead_of, task_runs, after_growth, finish_in, finish_obeys, after_finishes, claiming, choice_legal, next_records};
+ghost use Rattle.plants.specs.Records.{at, each, Low};
+ghost use Rattle.plants.specs.Tick.{TestsBy, ChangesBy, release_in, release_obeys, after_releases, met_at, all_met, comes_ready, after_readying, claim_of, rivals, goes_before, ahead_of, task_runs, after_growth, finish_in, finish_obeys, after_finishes, claiming, state_bad, choice_legal, next_records};
 
 use crate::bits::has_bit;
-use crate::layout::{Layout, MOST_TASKS, Task};
+use crate::layout::{MOST_TASKS, Task};
+use crate::plant::Plant;
 use crate::state::{Phase, PlantState, Record};
-use crate::states::{fits, is_bad};
+use crate::states::{fits, is_late};
 use policies::policy::{Claim, Policy};
-
-// How many choices there are: a release bit and a finish bit for each task.
-pub(crate) fn choices(layout: &Layout) -> u32
-    requires { layout.now.count ≤ most_tasks }
-    ensures { result ≡ 4 ^ layout.now.count }
-{
-    4u32.pow(layout.count as u32)
-}
 
 // Rule 1: whether a task may be released, or need not be.
 pub(crate) fn may_release(task: &Task, r: &Record, released: bool) -> bool
@@ -37,167 +32,20 @@ pub(crate) fn may_release(task: &Task, r: &Record, released: bool) -> bool
     }
 }
 
-// Whether the release bit of task i obeys.
-fn release_obeys(layout: &Layout, state: &PlantState, choice: u32, i: usize) -> bool
-    requires { i < most_tasks }
-    ensures { result ≡ release_obeys layout.now choice state.now.records i }
-{
-    may_release(&layout.tasks[i], &state.records[i], has_bit(choice, i))
-}
-
-// Whether every release bit obeys.
-fn releases_obey(layout: &Layout, state: &PlantState, choice: u32) -> bool
-    requires { layout.now.count ≤ most_tasks }
-    ensures { result ≡ all_below (release_obeys layout.now choice state.now.records) layout.now.count }
-{
-    for i in 0..layout.count {
-        if !release_obeys(layout, state, choice, i) {
-            return false;
-        }
-    }
-    true
-}
-
-fn after_releases(layout: &Layout, state: PlantState, choice: u32) -> PlantState
-    requires { layout.now.count ≤ most_tasks }
-    ensures { result.records ≡ after_releases layout.now choice state.records }
-{
-    let mut out = state;
-    for i in 0..layout.count {
-        if has_bit(choice, i) {
-            out.release(i);
-        }
-    }
-    out
-}
-
 // Whether task j is done, if it is needed.
+#[tactic(auto, unfolding(crate::specs::Tick::met_at))]
 fn is_met(needs: u32, state: &PlantState, j: usize) -> bool
     requires { j < most_tasks }
     ensures { result ≡ met_at needs state.now.records j }
 {
-    !has_bit(needs, j) || state.records[j].phase.is_done()
+    !has_bit(needs, j) || state.records[j].phase == Phase::Done
 }
 
 // Whether every needed task is done.
 fn all_met(needs: u32, state: &PlantState) -> bool
     ensures { result ≡ all_met needs state.now.records }
 {
-    for j in 0..MOST_TASKS {
-        if !is_met(needs, state, j) {
-            return false;
-        }
-    }
-    true
-}
-
-// Rule 2: whether task i becomes ready.
-fn comes_ready(layout: &Layout, state: &PlantState, i: usize) -> bool
-    requires { i < most_tasks }
-    ensures { result ≡ comes_ready layout.now state.now.records i }
-{
-    state.records[i].phase.is_held() && all_met(layout.tasks[i].needs, state)
-}
-
-fn after_readying(layout: &Layout, state: PlantState) -> PlantState
-    requires { layout.now.count ≤ most_tasks }
-    ensures { result.records ≡ after_readying layout.now state.records }
-{
-    let mut out = state;
-    for i in 0..layout.count {
-        if comes_ready(layout, &state, i) {
-            out.ready(i);
-        }
-    }
-    out
-}
-
-// The state after rule 2, in which tasks claim their resources.
-pub(crate) fn claiming(layout: &Layout, state: PlantState, choice: u32) -> PlantState
-    requires { layout.now.count ≤ most_tasks }
-    ensures { result.records ≡ claiming layout.now choice state.records }
-{
-    after_readying(layout, after_releases(layout, state, choice))
-}
-
-fn claim_of(layout: &Layout, state: &PlantState, i: usize) -> Claim
-    requires { i < most_tasks }
-    ensures { result ≡ claim_of layout.now state.now.records i }
-{
-    let task = layout.tasks[i];
-    let record = state.records[i];
-    Claim {
-        task: i as u32,
-        priority: task.priority,
-        waited: record.waited,
-        left: task.deadline.saturating_sub(record.since),
-        run: record.run,
-    }
-}
-
-// Whether task j is another than i, ready and on the same resource.
-fn are_rivals(layout: &Layout, state: &PlantState, i: usize, j: usize) -> bool
-    requires { (i < most_tasks) × (j < most_tasks) }
-    ensures { result ≡ rivals layout.now state.now.records i j }
-{
-    i != j
-        && state.records[j].phase.is_ready()
-        && layout.tasks[i].resource == layout.tasks[j].resource
-}
-
-// Whether task i goes before task j by the policy of its resource.
-fn goes_before<P: Policy>(
-    policy: &P,
-    layout: &Layout,
-    state: &PlantState,
-    i: usize,
-    j: usize,
-) -> bool
-    requires { (i < most_tasks) × ((j < most_tasks) × ((task_at layout.now i).resource < most_resources)) }
-    ensures { result ≡ goes_before (P.order policy.now) layout.now state.now.records i j }
-{
-    let resource = layout.resources[layout.tasks[i].resource as usize];
-    let mine = claim_of(layout, state, i);
-    let theirs = claim_of(layout, state, j);
-    policy.before(resource.policy, resource.preempt, &mine, &theirs)
-}
-
-// Whether task i goes before task j, or j is no rival.
-fn is_ahead<P: Policy>(policy: &P, layout: &Layout, state: &PlantState, i: usize, j: usize) -> bool
-    requires { (i < most_tasks) × ((j < most_tasks) × ((task_at layout.now i).resource < most_resources)) }
-    ensures { result ≡ ahead_of (P.order policy.now) layout.now state.now.records i j }
-{
-    !are_rivals(layout, state, i, j) || goes_before(policy, layout, state, i, j)
-}
-
-// Rule 3: whether task i runs.
-pub(crate) fn runs<P: Policy>(policy: &P, layout: &Layout, state: &PlantState, i: usize) -> bool
-    requires { (i < most_tasks) × ((layout.now.count ≤ most_tasks) × ((task_at layout.now i).resource < most_resources)) }
-    ensures { result ≡ task_runs (P.order policy.now) layout.now state.now.records i }
-{
-    if !state.records[i].phase.is_ready() {
-        return false;
-    }
-    for j in 0..layout.count {
-        if !is_ahead(policy, layout, state, i, j) {
-            return false;
-        }
-    }
-    true
-}
-
-// Rule 4.
-fn after_growth<P: Policy>(policy: &P, layout: &Layout, state: PlantState) -> PlantState
-    requires valid { layout_valid layout.now ≡ true }
-    requires low { (k : ℕ) → k < layout.now.count → Low (at state.records k) }
-    ensures { result.records ≡ after_growth (P.order policy.now) layout.now state.records }
-{
-    let mut out = state;
-    for i in 0..layout.count {
-        let running = runs(policy, layout, &state, i);
-        out.grow(i, running);
-    }
-    out
+    (0..MOST_TASKS).all(|j| is_met(needs, state, j))
 }
 
 // Rule 5: whether a task that runs or does not may finish, or need not; `run` is what its run is after growth, if it runs.
@@ -211,98 +59,216 @@ fn may_finish(task: &Task, running: bool, run: u32, finished: bool) -> bool
     }
 }
 
-// Whether the finish bit of task i obeys, where `state` is the one after rule 2.
-fn finish_obeys<P: Policy>(
-    policy: &P,
-    layout: &Layout,
-    state: &PlantState,
-    choice: u32,
-    i: usize,
-) -> bool
-    requires few { layout.now.count ≤ most_tasks }
-    requires within { i < most_tasks }
-    requires placed { (task_at layout.now i).resource < most_resources }
-    requires low { Low (at state.now.records i) }
-    ensures { result ≡ finish_obeys (P.order policy.now) layout.now choice state.now.records i }
-{
-    let finished = has_bit(choice, layout.count + i);
-    let run = state.records[i].run + 1;
-    // Short of its worst time a task need not finish, whether it runs or not.
-    if !finished && run != layout.tasks[i].worst {
-        return true;
+impl<P: Policy> Plant<P> {
+    // How many choices there are: a release bit and a finish bit for each task.
+    pub(crate) fn choices(&self) -> u32
+        ensures { result ≡ 4 ^ self.now.layout.count }
+    {
+        4u32.pow(self.layout.count as u32)
     }
-    may_finish(
-        &layout.tasks[i],
-        runs(policy, layout, state, i),
-        run,
-        finished,
-    )
-}
 
-// Whether every finish bit obeys, where `state` is the one after rule 2.
-pub(crate) fn finishes_obey<P: Policy>(
-    policy: &P,
-    layout: &Layout,
-    state: &PlantState,
-    choice: u32,
-) -> bool
-    requires valid { layout_valid layout.now ≡ true }
-    requires low { (k : ℕ) → k < layout.now.count → Low (at state.now.records k) }
-    ensures { result ≡ all_below (finish_obeys (P.order policy.now) layout.now choice state.now.records) layout.now.count }
-{
-    for i in 0..layout.count {
-        if !finish_obeys(policy, layout, state, choice, i) {
+    // Whether the release bit of task i obeys.
+    #[tactic(auto, unfolding(crate::specs::Tick::release_obeys))]
+    fn release_obeys(&self, state: &PlantState, choice: u32, i: usize) -> bool
+        requires { i < self.now.layout.count }
+        ensures { result ≡ release_obeys self.now.layout choice state.now.records i }
+    {
+        may_release(&self.layout.tasks[i], &state.records[i], has_bit(choice, i))
+    }
+
+    // Whether every release bit obeys.
+    fn releases_obey(&self, state: &PlantState, choice: u32) -> bool
+        ensures { result ≡ all_below (release_obeys self.now.layout choice state.now.records) self.now.layout.count }
+    {
+        (0..self.layout.count).all(|i| self.release_obeys(state, choice, i))
+    }
+
+    // The records of the tasks that pass the test, each changed in turn.
+    fn changed<T: Fn(usize) -> bool, C: Fn(&mut PlantState, usize)>(
+        &self,
+        state: PlantState,
+        test: T,
+        change: C,
+    ) -> PlantState
+        requires tests { (i : ℕ) → i < self.now.layout.count → T.pre test i }
+        requires changes { (s : MutBor PlantState) (i : ℕ) → i < most_tasks → C.pre change s i }
+        ensures { (p : ℕ → Bool) (f : Record → Record) → TestsBy (T.post test) self.now.layout.count p → ChangesBy (λ s i t. C.post change s i tt t) f → result.records ≡ each self.now.layout.count (λ i r. cond (p i) (f r) r) state.records }
+    {
+        let mut out = state;
+        for i in 0..self.layout.count {
+            if test(i) {
+                change(&mut out, i);
+            }
+        }
+        out
+    }
+
+    fn after_releases(&self, state: PlantState, choice: u32) -> PlantState
+        ensures { result.records ≡ after_releases self.now.layout choice state.records }
+    {
+        self.changed(state, |i| has_bit(choice, i), PlantState::release)
+    }
+
+    // Rule 2: whether task i becomes ready.
+    #[tactic(auto, unfolding(crate::specs::Tick::comes_ready))]
+    fn comes_ready(&self, state: &PlantState, i: usize) -> bool
+        requires { i < self.now.layout.count }
+        ensures { result ≡ comes_ready self.now.layout state.now.records i }
+    {
+        state.records[i].phase == Phase::Held && all_met(self.layout.tasks[i].needs, state)
+    }
+
+    fn after_readying(&self, state: PlantState) -> PlantState
+        ensures { result.records ≡ after_readying self.now.layout state.records }
+    {
+        self.changed(state, |i| self.comes_ready(&state, i), PlantState::ready)
+    }
+
+    // The state after rule 2, in which tasks claim their resources.
+    pub(crate) fn claiming(&self, state: PlantState, choice: u32) -> PlantState
+        ensures { result.records ≡ claiming self.now.layout choice state.records }
+    {
+        self.after_readying(self.after_releases(state, choice))
+    }
+
+    fn claim_of(&self, state: &PlantState, i: usize) -> Claim
+        requires { i < self.now.layout.count }
+        ensures { result ≡ claim_of self.now.layout state.now.records i }
+    {
+        let task = self.layout.tasks[i];
+        let record = state.records[i];
+        Claim {
+            task: i as u32,
+            priority: task.priority,
+            waited: record.waited,
+            left: task.deadline.saturating_sub(record.since),
+            run: record.run,
+        }
+    }
+
+    // Whether task j is another than i, ready and on the same resource.
+    fn are_rivals(&self, state: &PlantState, i: usize, j: usize) -> bool
+        requires { (i < self.now.layout.count) × (j < self.now.layout.count) }
+        ensures { result ≡ rivals self.now.layout state.now.records i j }
+    {
+        i != j
+            && state.records[j].phase == Phase::Ready
+            && self.layout.tasks[i].resource == self.layout.tasks[j].resource
+    }
+
+    // Whether task i goes before task j by the policy of its resource.
+    fn goes_before(&self, state: &PlantState, i: usize, j: usize) -> bool
+        requires { (i < self.now.layout.count) × (j < self.now.layout.count) }
+        ensures { result ≡ goes_before (P.order self.now.policy) self.now.layout state.now.records i j }
+    {
+        let resource = self.layout.resources[self.layout.tasks[i].resource as usize];
+        let mine = self.claim_of(state, i);
+        let theirs = self.claim_of(state, j);
+        self.policy
+            .before(resource.policy, resource.preempt, &mine, &theirs)
+    }
+
+    // Whether task i goes before task j, or j is no rival.
+    #[tactic(auto, unfolding(crate::specs::Tick::ahead_of))]
+    fn is_ahead(&self, state: &PlantState, i: usize, j: usize) -> bool
+        requires { (i < self.now.layout.count) × (j < self.now.layout.count) }
+        ensures { result ≡ ahead_of (P.order self.now.policy) self.now.layout state.now.records i j }
+    {
+        !self.are_rivals(state, i, j) || self.goes_before(state, i, j)
+    }
+
+    // Whether task i goes before every rival.
+    fn is_ahead_of_all(&self, state: &PlantState, i: usize) -> bool
+        requires { i < self.now.layout.count }
+        ensures { result ≡ all_below (ahead_of (P.order self.now.policy) self.now.layout state.now.records i) self.now.layout.count }
+    {
+        (0..self.layout.count).all(|j| self.is_ahead(state, i, j))
+    }
+
+    // Rule 3: whether task i runs.
+    #[tactic(auto, unfolding(crate::specs::Tick::task_runs))]
+    pub(crate) fn runs(&self, state: &PlantState, i: usize) -> bool
+        requires { i < self.now.layout.count }
+        ensures { result ≡ task_runs (P.order self.now.policy) self.now.layout state.now.records i }
+    {
+        state.records[i].phase == Phase::Ready && self.is_ahead_of_all(state, i)
+    }
+
+    // Rule 4: each task's record changes, whether the task runs or not, and each must have room.
+    fn after_growth(&self, state: PlantState) -> PlantState
+        requires { (k : ℕ) → k < self.now.layout.count → Low (at state.records k) }
+        ensures { result.records ≡ after_growth (P.order self.now.policy) self.now.layout state.records }
+    {
+        let mut out = state;
+        for i in 0..self.layout.count {
+            let running = self.runs(&state, i);
+            out.grow(i, running);
+        }
+        out
+    }
+
+    // Whether the finish bit of task i obeys, where `state` is the one after rule 2.
+    fn finish_obeys(&self, state: &PlantState, choice: u32, i: usize) -> bool
+        requires { i < self.now.layout.count }
+        ensures { result ≡ finish_obeys (P.order self.now.policy) self.now.layout choice state.now.records i }
+    {
+        let finished = has_bit(choice, self.layout.count + i);
+        // A sum that is cut off is past every best and worst time, as the whole sum is.
+        let run = state.records[i].run.saturating_add(1);
+        // Short of its worst time a task need not finish, whether it runs or not.
+        if !finished && run != self.layout.tasks[i].worst {
+            return true;
+        }
+        may_finish(&self.layout.tasks[i], self.runs(state, i), run, finished)
+    }
+
+    // Whether every finish bit obeys, where `state` is the one after rule 2.
+    pub(crate) fn finishes_obey(&self, state: &PlantState, choice: u32) -> bool
+        ensures { result ≡ all_below (finish_obeys (P.order self.now.policy) self.now.layout choice state.now.records) self.now.layout.count }
+    {
+        (0..self.layout.count).all(|i| self.finish_obeys(state, choice, i))
+    }
+
+    fn after_finishes(&self, state: PlantState, choice: u32) -> PlantState
+        ensures { result.records ≡ after_finishes self.now.layout choice state.records }
+    {
+        self.changed(
+            state,
+            |i| has_bit(choice, self.layout.count + i),
+            PlantState::finish,
+        )
+    }
+
+    // Whether a task is late.
+    #[tactic(auto, unfolding(crate::specs::Tick::late_at))]
+    pub(crate) fn has_late(&self, state: &PlantState) -> bool
+        ensures { result ≡ state_bad self.now.layout state.now.records }
+    {
+        (0..self.layout.count).any(|i| is_late(&self.layout.tasks[i], &state.records[i]))
+    }
+
+    // Whether the choice is legal. The release bits are tested first, since most choices break the rules there, and
+    // before anything of the tick is computed.
+    pub(crate) fn allows(&self, state: &PlantState, choice: u32) -> bool
+        ensures { result ≡ choice_legal (P.order self.now.policy) self.now.layout choice state.now.records }
+    {
+        if choice >= self.choices() || !self.releases_obey(state, choice) {
             return false;
         }
-    }
-    true
-}
-
-fn after_finishes(layout: &Layout, state: PlantState, choice: u32) -> PlantState
-    requires { layout.now.count ≤ most_tasks }
-    ensures { result.records ≡ after_finishes layout.now choice state.records }
-{
-    let mut out = state;
-    for i in 0..layout.count {
-        if has_bit(choice, layout.count + i) {
-            out.finish(i);
+        if !fits(&self.layout, state) || self.has_late(state) {
+            return false;
         }
+        self.finishes_obey(&self.claiming(*state, choice), choice)
     }
-    out
-}
 
-// The release bits are tested first, since most choices break the rules there, and before anything of the tick is
-// computed.
-pub(crate) fn is_legal<P: Policy>(
-    policy: &P,
-    layout: &Layout,
-    state: &PlantState,
-    choice: u32,
-) -> bool
-    requires { layout_valid layout.now ≡ true }
-    ensures { result ≡ choice_legal (P.order policy.now) layout.now choice state.now.records }
-{
-    if choice >= choices(layout) || !releases_obey(layout, state, choice) {
-        return false;
+    // The state after all five rules where the choice is legal, and the same state otherwise.
+    pub(crate) fn after_tick(&self, state: PlantState, choice: u32) -> PlantState
+        ensures { result.records ≡ next_records (P.order self.now.policy) self.now.layout choice state.records }
+    {
+        if !self.allows(&state, choice) {
+            return state;
+        }
+        let claims = self.claiming(state, choice);
+        self.after_finishes(self.after_growth(claims), choice)
     }
-    if !fits(layout, state) || is_bad(layout, state) {
-        return false;
-    }
-    finishes_obey(policy, layout, &claiming(layout, *state, choice), choice)
-}
-
-pub(crate) fn next<P: Policy>(
-    policy: &P,
-    layout: &Layout,
-    state: PlantState,
-    choice: u32,
-) -> PlantState
-    requires { layout_valid layout.now ≡ true }
-    ensures { result.records ≡ next_records (P.order policy.now) layout.now choice state.records }
-{
-    if !is_legal(policy, layout, &state, choice) {
-        return state;
-    }
-    let claims = claiming(layout, state, choice);
-    after_finishes(layout, after_growth(policy, layout, claims), choice)
 }

@@ -7,7 +7,7 @@ use policies::site::SitePolicy;
 use systems::system::System;
 
 fn numbers(r: Record) -> (u32, u32, u32, u32) {
-    (r.phase.number(), r.since, r.run, r.waited)
+    (u32::from(r.phase), r.since, r.run, r.waited)
 }
 
 // How many choices are legal at the state.

@@ -10,21 +10,10 @@ const PRIORITIES: [u32; CLASSES] = [
     60, 55, 50, 45,
 ];
 
-// The entry of the table, if the class is one.
-fn listed(class: u32) -> Option<u32>
-    ensures { result ≡ priority_of class }
-{
-    if (class as usize) < CLASSES {
-        Some(PRIORITIES[class as usize])
-    } else {
-        None
-    }
-}
-
 // The priority of a class, and none for a number that is no class.
 pub fn priority(class: u32) -> Option<u32>
     ensures listed { result ≡ priority_of class }
     ensures banded { result ≡ by_bands class }
 {
-    listed(class)
+    PRIORITIES.get(class as usize).copied()
 }

@@ -1,67 +1,41 @@
 // The orders of claims by one figure, and the layer that keeps a begun task running.
 ghost use Rattle.std.specs.Prelude.{◌≡◌};
-ghost use Rattle.policies.specs.Orders.{ranks, longest_waited, highest_priority, least_left, begun_first};
+ghost use Rattle.policies.specs.Orders.{order_of, begun_first};
 ghost use Rattle.std.proofs.Common.{rules};
+ghost use Rattle.policies.specs.Lawfuls.{order_of_lawful};
 
 use crate::policy::{Claim, Policy};
+use std::cmp::Reverse;
 
-// Whether the task numbered `one`, with the figure `mine`, goes before the task `other`, with `theirs`.
-fn ranks_first(one: u32, other: u32, mine: u32, theirs: u32) -> bool
-    ensures { result ≡ ranks one other mine theirs }
-{
-    if one == other {
-        false
-    } else if mine == theirs {
-        one < other
-    } else {
-        mine > theirs
-    }
+// Which figure of two claims decides which of them goes first.
+#[derive(Clone, Copy, Debug, PartialEq, Eq)]
+pub enum Discipline {
+    // the longest waited first
+    Fifo,
+    // the highest priority first
+    FixedPriority,
+    // the least time left first
+    EarliestDeadline,
 }
 
-// The longest waited first.
-#[derive(Clone, Copy, Drop)]
-pub struct Fifo;
+// On a tie the lower task number goes first, and of equal numbers neither.
+impl Policy for Discipline {
+    ghost order = { λ discipline _ _. order_of discipline };
 
-impl Policy for Fifo {
-    ghost order = { λ _ _ _. longest_waited };
-
-    ghost lawful = { Prim.search rules };
+    ghost lawful = { λ discipline _ _. order_of_lawful discipline };
 
     fn before(&self, _policy: u32, _preempt: u32, a: &Claim, b: &Claim) -> bool {
-        ranks_first(a.task, b.task, a.waited, b.waited)
-    }
-}
-
-// The highest priority first.
-#[derive(Clone, Copy, Drop)]
-pub struct FixedPriority;
-
-impl Policy for FixedPriority {
-    ghost order = { λ _ _ _. highest_priority };
-
-    ghost lawful = { Prim.search rules };
-
-    fn before(&self, _policy: u32, _preempt: u32, a: &Claim, b: &Claim) -> bool {
-        ranks_first(a.task, b.task, a.priority, b.priority)
-    }
-}
-
-// The least time left first.
-#[derive(Clone, Copy, Drop)]
-pub struct EarliestDeadline;
-
-impl Policy for EarliestDeadline {
-    ghost order = { λ _ _ _. least_left };
-
-    ghost lawful = { Prim.search rules };
-
-    fn before(&self, _policy: u32, _preempt: u32, a: &Claim, b: &Claim) -> bool {
-        ranks_first(a.task, b.task, b.left, a.left)
+        let (mine, theirs) = match self {
+            Discipline::Fifo => (a.waited, b.waited),
+            Discipline::FixedPriority => (a.priority, b.priority),
+            Discipline::EarliestDeadline => (b.left, a.left),
+        };
+        a.task != b.task && (mine, Reverse(a.task)) > (theirs, Reverse(b.task))
     }
 }
 
 // Over any policy: a task that has begun to run goes before one that has not.
-#[derive(Clone, Copy, Drop)]
+#[derive(Clone, Copy, Debug, PartialEq, Eq, Drop)]
 pub struct NonPreemptive<P> {
     pub below: P,
 }
@@ -72,14 +46,11 @@ impl<P: Policy> Policy for NonPreemptive<P> {
     ghost lawful = { Prim.search rules };
 
     fn before(&self, policy: u32, preempt: u32, a: &Claim, b: &Claim) -> bool {
-        if a.task == b.task {
-            false
-        } else if a.run > 0 && b.run == 0 {
-            true
-        } else if a.run == 0 && b.run > 0 {
-            false
-        } else {
-            self.below.before(policy, preempt, a, b)
-        }
+        a.task != b.task
+            && match (a.run > 0, b.run > 0) {
+                (true, false) => true,
+                (false, true) => false,
+                _ => self.below.before(policy, preempt, a, b),
+            }
     }
 }

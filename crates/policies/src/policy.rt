@@ -4,7 +4,7 @@ ghost use Rattle.policies.specs.declared.policy.Claim.{Claim};
 ghost use Rattle.policies.specs.Lawful.{Lawful};
 
 // What a policy is told of a ready task.
-#[derive(Clone, Copy)]
+#[derive(Clone, Copy, Debug, PartialEq, Eq)]
 pub struct Claim {
     // the task's number
     pub task: u32,

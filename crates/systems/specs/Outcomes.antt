@@ -1,30 +1,37 @@
 -- The number and the value of every outcome.
-use Rattle.std.specs.Prelude.{ℕ, Bool, ◌==◌}
-use Rattle.systems.specs.declared.outcome.Outcome.{Outcome}
-use Rattle.systems.specs.declared.outcome.Outcome.TheVariants.{Accepted, NotALine, OutOfTurn, FieldOutside, NoRoom, NotEntered, GapsUnlike, Unfit, Bad, Listed, Full, NoSuchPlace, LeadsToBad, LeadsOutside, FirstNotListed, Unsettled, NotLegal, EndsNotBad, NumberTooLarge, BufferShort}
+use Rattle.std.specs.Prelude.{ℕ, Bool, ◌==◌, Result, Ok, Err}
+use Rattle.systems.specs.declared.outcome.Refusal.{Refusal}
+use Rattle.systems.specs.declared.outcome.Refusal.TheVariants.{NotALine, OutOfTurn, FieldOutside, NoRoom, NotEntered, GapsUnlike, Unfit, Bad, Listed, Full, NoSuchPlace, LeadsToBad, LeadsOutside, FirstNotListed, Unsettled, NotLegal, EndsNotBad, NumberTooLarge, BufferShort}
 
-abbrev pub answer_of : Outcome → ℕ × ℕ
-answer_of (Accepted value) = (0, value)
-answer_of NotALine = (1, 0)
-answer_of OutOfTurn = (2, 0)
-answer_of (FieldOutside field) = (3, field)
-answer_of NoRoom = (4, 0)
-answer_of (NotEntered field) = (5, field)
-answer_of (GapsUnlike task) = (6, task)
-answer_of Unfit = (8, 0)
-answer_of Bad = (9, 0)
-answer_of (Listed place) = (10, place)
-answer_of Full = (11, 0)
-answer_of NoSuchPlace = (12, 0)
-answer_of (LeadsToBad choice) = (13, choice)
-answer_of (LeadsOutside choice) = (14, choice)
-answer_of FirstNotListed = (15, 0)
-answer_of (Unsettled place) = (16, place)
-answer_of (NotLegal position) = (17, position)
-answer_of (EndsNotBad length) = (18, length)
-answer_of NumberTooLarge = (19, 0)
-answer_of (BufferShort length) = (19, length)
+-- what a call comes to: the value that it promises, or why it refuses
+abbrev pub Outcome : Type 0
+Outcome = Result ℕ Refusal
+
+abbrev pub refused : Refusal → ℕ × ℕ
+refused NotALine = (1, 0)
+refused OutOfTurn = (2, 0)
+refused (FieldOutside field) = (3, field)
+refused NoRoom = (4, 0)
+refused (NotEntered field) = (5, field)
+refused (GapsUnlike task) = (6, task)
+refused Unfit = (8, 0)
+refused Bad = (9, 0)
+refused (Listed place) = (10, place)
+refused Full = (11, 0)
+refused NoSuchPlace = (12, 0)
+refused (LeadsToBad choice) = (13, choice)
+refused (LeadsOutside choice) = (14, choice)
+refused FirstNotListed = (15, 0)
+refused (Unsettled place) = (16, place)
+refused (NotLegal position) = (17, position)
+refused (EndsNotBad length) = (18, length)
+refused NumberTooLarge = (19, 0)
+refused (BufferShort length) = (19, length)
 
 -- number 0, and no other, is the number of an accepted call
+abbrev pub answer_of : Outcome → ℕ × ℕ
+answer_of (Ok value) = (0, value)
+answer_of (Err refusal) = refused refusal
+
 abbrev pub accepts : Outcome → Bool
 accepts o = (answer_of o).0 == 0

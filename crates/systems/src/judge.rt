@@ -3,7 +3,7 @@ ghost use Rattle.std.specs.Prelude.{◌≡◌};
 ghost use Rattle.systems.specs.Outcomes.{answer_of};
 ghost use Rattle.systems.specs.Judging.{judged, ended, Judges, SaysWhy};
 
-use crate::outcome::Outcome;
+use crate::outcome::{Answer, Outcome, Refusal, answer};
 use crate::system::System;
 
 // A run of this length ends at the state.
@@ -11,9 +11,9 @@ fn ending<Y: System>(system: &Y, state: &Y::State, length: usize) -> Outcome
     ensures { result ≡ ended (Y.meaning system.now) state.now length }
 {
     if system.is_bad(state) {
-        Outcome::Accepted(length)
+        Ok(length)
     } else {
-        Outcome::EndsNotBad(length)
+        Err(Refusal::EndsNotBad(length))
     }
 }
 
@@ -24,7 +24,7 @@ fn outcome<Y: System>(system: &Y, choices: &[u32]) -> Outcome
     let mut state = system.first();
     for (i, choice) in choices.iter().enumerate() {
         if !system.is_legal(&state, *choice) {
-            return Outcome::NotLegal(i);
+            return Err(Refusal::NotLegal(i));
         }
         state = system.next(&state, *choice);
     }
@@ -32,10 +32,10 @@ fn outcome<Y: System>(system: &Y, choices: &[u32]) -> Outcome
 }
 
 // Accepts the choices, with their number, exactly when they are a run whose last state is bad.
-pub fn judge<Y: System>(system: &Y, choices: &[u32]) -> (u32, usize)
+pub fn judge<Y: System>(system: &Y, choices: &[u32]) -> Answer
     ensures answer { result ≡ answer_of (judged (Y.meaning system.now) choices.now) }
     ensures exact { Judges (Y.meaning system.now) choices.now result }
     ensures why { SaysWhy (Y.meaning system.now) choices.now result }
 {
-    outcome(system, choices).answer()
+    answer(outcome(system, choices))
 }

@@ -1,12 +1,10 @@
-// What a call can come to, and the pair of plain numbers that answers it.
+// What a call comes to, and the pair of plain numbers that answers it.
 ghost use Rattle.std.specs.Prelude.{◌≡◌};
-ghost use Rattle.systems.specs.Outcomes.{answer_of, accepts};
+ghost use Rattle.systems.specs.Outcomes.{answer_of, refused};
 
-// The closed list of outcomes. Choices, fields, places and positions are those that docs/RULES.md names.
-#[derive(Clone, Copy)]
-pub enum Outcome {
-    // done; the value is the one that the call promises
-    Accepted(usize),
+// Why a call refuses, a closed list. Choices, fields, places and positions are those that docs/RULES.md names.
+#[derive(Clone, Copy, Debug, PartialEq, Eq)]
+pub enum Refusal {
     // the bytes are not a line
     NotALine,
     // a line that may not stand where it stands
@@ -47,42 +45,47 @@ pub enum Outcome {
     BufferShort(usize),
 }
 
-impl Outcome {
-    // Whether the call did what it was asked.
-    pub fn is_accepted(self) -> bool
-        ensures { result ≡ accepts self }
-    {
-        match self {
-            Outcome::Accepted(_) => true,
-            _ => false,
+// The value that the call promises, or why it refuses.
+pub type Outcome = Result<usize, Refusal>;
+
+// A number, 0 for what is accepted, and a value: what every call answers.
+pub type Answer = (u32, usize);
+
+// The number of a refusal, and its value or 0.
+impl From<Refusal> for Answer {
+    ghost from_gives = { λ refusal r. r ≡ refused refusal };
+
+    fn from(refusal: Refusal) -> Answer {
+        match refusal {
+            Refusal::NotALine => (1, 0),
+            Refusal::OutOfTurn => (2, 0),
+            Refusal::FieldOutside(field) => (3, field as usize),
+            Refusal::NoRoom => (4, 0),
+            Refusal::NotEntered(field) => (5, field as usize),
+            Refusal::GapsUnlike(task) => (6, task),
+            Refusal::Unfit => (8, 0),
+            Refusal::Bad => (9, 0),
+            Refusal::Listed(place) => (10, place),
+            Refusal::Full => (11, 0),
+            Refusal::NoSuchPlace => (12, 0),
+            Refusal::LeadsToBad(choice) => (13, choice as usize),
+            Refusal::LeadsOutside(choice) => (14, choice as usize),
+            Refusal::FirstNotListed => (15, 0),
+            Refusal::Unsettled(place) => (16, place),
+            Refusal::NotLegal(position) => (17, position),
+            Refusal::EndsNotBad(length) => (18, length),
+            Refusal::NumberTooLarge => (19, 0),
+            Refusal::BufferShort(length) => (19, length),
         }
     }
+}
 
-    // The outcome's number, and its value or 0.
-    pub fn answer(self) -> (u32, usize)
-        ensures { result ≡ answer_of self }
-    {
-        match self {
-            Outcome::Accepted(value) => (0, value),
-            Outcome::NotALine => (1, 0),
-            Outcome::OutOfTurn => (2, 0),
-            Outcome::FieldOutside(field) => (3, field as usize),
-            Outcome::NoRoom => (4, 0),
-            Outcome::NotEntered(field) => (5, field as usize),
-            Outcome::GapsUnlike(task) => (6, task),
-            Outcome::Unfit => (8, 0),
-            Outcome::Bad => (9, 0),
-            Outcome::Listed(place) => (10, place),
-            Outcome::Full => (11, 0),
-            Outcome::NoSuchPlace => (12, 0),
-            Outcome::LeadsToBad(choice) => (13, choice as usize),
-            Outcome::LeadsOutside(choice) => (14, choice as usize),
-            Outcome::FirstNotListed => (15, 0),
-            Outcome::Unsettled(place) => (16, place),
-            Outcome::NotLegal(position) => (17, position),
-            Outcome::EndsNotBad(length) => (18, length),
-            Outcome::NumberTooLarge => (19, 0),
-            Outcome::BufferShort(length) => (19, length),
-        }
+// The answer of a call that comes to this.
+pub fn answer(outcome: Outcome) -> Answer
+    ensures { result ≡ answer_of outcome }
+{
+    match outcome {
+        Ok(value) => (0, value),
+        Err(refusal) => refusal.into(),
     }
 }

@@ -10,9 +10,10 @@ use super::Chart;
 use lines::loggable::Loggable;
 use lines::tag::Tag;
 use lines::write::write as write_line;
+use systems::outcome::Answer;
 
 // Writes a step as a line.
-fn write_step(step: u32, out: &mut [u8]) -> (u32, usize)
+fn write_step(step: u32, out: &mut [u8]) -> Answer
     ensures answer { result ≡ answer_of (writing Offr (step_numbers step) (length out.old)) }
     ensures after { out.new ≡ written Offr (step_numbers step) out.old }
 {
@@ -34,9 +35,9 @@ impl Loggable for Chart {
 
     ghost restored = { λ _ ns. step_of ns };
 
-    ghost numbered = { λ x. chart_numbered x.entries x.few_steps };
+    ghost numbered = { λ x. chart_numbered x.entries x.valid.few_steps };
 
-    fn write(&self, state: &u32, out: &mut [u8]) -> (u32, usize) {
+    fn write(&self, state: &u32, out: &mut [u8]) -> Answer {
         write_step(*state, out)
     }
 

@@ -7,6 +7,7 @@ ghost use Rattle.charts.specs.Leads.{FollowsLeads};
 use super::DraftChart;
 use crate::chart::Chart;
 use crate::entries::Entries;
+use systems::outcome::{Answer, answer};
 
 impl DraftChart {
     // A draft with step 0, not forbidden, and input 0, which leads from it to itself.
@@ -19,34 +20,28 @@ impl DraftChart {
     }
 
     // Enters a step, forbidden (1) or not (0); the value is its number. Every input leads from it to itself.
-    pub fn add_step(&mut self, forbidden: u32) -> (u32, usize)
+    pub fn add_step(&mut self, forbidden: u32) -> Answer
         ensures answer { result ≡ answer_of (step_entry self.old.entries forbidden) }
         ensures after { self.new.entries ≡ with_step self.old.entries forbidden }
     {
-        let (outcome, entries) = self.entries.with_step(forbidden);
-        self.entries = entries;
-        outcome.answer()
+        answer(self.entries.add_step(forbidden))
     }
 
     // Enters an input; the value is its number. It leads from every step to itself.
-    pub fn add_input(&mut self) -> (u32, usize)
+    pub fn add_input(&mut self) -> Answer
         ensures answer { result ≡ answer_of (input_entry self.old.entries) }
         ensures after { self.new.entries ≡ with_input self.old.entries }
         ensures home { Home self.old.entries self.new.entries }
     {
-        let (outcome, entries) = self.entries.with_input();
-        self.entries = entries;
-        outcome.answer()
+        answer(self.entries.add_input())
     }
 
     // Sets where an input leads from a step; the value is 0.
-    pub fn set_lead(&mut self, step: u32, input: u32, next: u32) -> (u32, usize)
+    pub fn set_lead(&mut self, step: u32, input: u32, next: u32) -> Answer
         ensures answer { result ≡ answer_of (lead_entry self.old.entries step input next) }
         ensures after { self.new.entries ≡ with_lead self.old.entries step input next }
     {
-        let (outcome, entries) = self.entries.with_lead(step, input, next);
-        self.entries = entries;
-        outcome.answer()
+        answer(self.entries.set_lead(step, input, next))
     }
 
     // How many steps are entered.

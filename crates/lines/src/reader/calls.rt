@@ -1,26 +1,30 @@
 // The reader's calls.
-ghost use Rattle.std.specs.Prelude.{◌≡◌, ◌+◌, ◌≤◌, length, drop, if◌then◌else◌, Decides};
+ghost use Rattle.std.specs.Prelude.{◌≡◌, ◌≤◌, length, Decides, Ok, position, ◌==◌, is_some, if◌then◌else◌};
 ghost use Rattle.systems.specs.Outcomes.{answer_of};
-ghost use Rattle.systems.specs.declared.outcome.Outcome.TheVariants.{Accepted};
-ghost use Rattle.lines.specs.Spelling.{OneSpelling};
-ghost use Rattle.lines.specs.Reading.{said, input_of, Reads, piece, past_piece, Hears, LineExact};
+ghost use Rattle.lines.specs.Spelling.{feed, OneSpelling};
+ghost use Rattle.lines.specs.Reading.{input_of, ahead, Reads, piece, past_piece, line_of, heard, hearing, Hears, LineExact};
 
 use super::{Guard, LineReader};
-use crate::form::{pass_numbers, pass_tag};
+use crate::form::line_first;
 use crate::line::Line;
-use systems::outcome::Outcome;
+use systems::outcome::{Answer, Refusal, answer};
 
-// The place after the next line feed, or the end.
-fn past_feed(input: &[u8], place: usize) -> usize
-    requires { place ≤ length input.now }
-    ensures place { result ≡ place + length (piece (drop place input.now)) }
-    ensures within { result ≤ length input.now }
+// Where the first line feed is.
+fn feed_at(bytes: &[u8]) -> Option<usize>
+    ensures { result ≡ position (λ b. b == feed) bytes.now }
 {
-    let mut at = place;
-    while at < input.len() && input[at] != b'\n' {
-        at += 1;
+    bytes.iter().position(|byte| *byte == b'\n')
+}
+
+// The length of the bytes up to the next line feed and with it, or of all where there is none.
+fn piece_length(bytes: &[u8]) -> usize
+    ensures length { result ≡ length (piece bytes.now) }
+    ensures within { result ≤ length bytes.now }
+{
+    match feed_at(bytes) {
+        Some(at) => at + 1,
+        None => bytes.len(),
     }
-    if at < input.len() { at + 1 } else { at }
 }
 
 impl<'a> LineReader<'a> {
@@ -32,36 +36,64 @@ impl<'a> LineReader<'a> {
         LineReader { input, place: 0 }
     }
 
-    // Reads a line, and answers the place after it; on every way out but acceptance the place goes back.
-    pub fn read(&mut self) -> ((u32, usize), Line)
-        ensures reads { Reads self.old self.new result.0 (said result.1).0 (said result.1).1 }
-        ensures one { OneSpelling }
+    // The bytes that are left.
+    fn ahead(&self) -> &'a [u8]
+        ensures { result.now ≡ ahead self.now }
+    {
+        &self.input[self.place..]
+    }
+
+    // Passes the line at the place and says which it is; on every way out but acceptance the place goes back.
+    fn accept(&mut self) -> Option<Line>
+        ensures input { input_of self.new ≡ input_of self.old }
+        ensures line { result ≡ line_of (piece (ahead self.old)) }
+        ensures place { self.new.place ≡ (if is_some result then past_piece self.old else self.old.place) }
     {
         let input = self.input;
+        let ahead = self.ahead();
         let first = self.place;
         let mut guard = Guard {
             place: &mut self.place,
             first,
             accepted: false,
         };
-        let Some(tag) = pass_tag(input, guard.place) else {
-            return (Outcome::NotALine.answer(), Line::none());
+        // no `?`: the borrow checker does not cover it beside a guard with a drop of its own
+        let Some((line, rest)) = line_first(ahead) else {
+            return None;
         };
-        let Some(line) = pass_numbers(input, guard.place, tag) else {
-            return (Outcome::NotALine.answer(), Line::none());
-        };
+        *guard.place = input.len() - rest.len();
         guard.accepted = true;
-        (Outcome::Accepted(*guard.place).answer(), line)
+        Some(line)
+    }
+
+    // What is answered where this line was accepted, or none.
+    fn told(&self, line: Option<Line>) -> (Answer, Line)
+        ensures answer { result.0 ≡ answer_of (hearing line self.now.place) }
+        ensures line { result.1 ≡ heard line }
+    {
+        match line {
+            Some(line) => (answer(Ok(self.place)), line),
+            None => (Refusal::NotALine.into(), Line::none()),
+        }
+    }
+
+    // Reads a line, and answers the place after it; where there is none the place stays.
+    pub fn read(&mut self) -> (Answer, Line)
+        ensures reads { Reads self.old self.new result.0 result.1.0 result.1.1 }
+        ensures one { OneSpelling }
+    {
+        let line = self.accept();
+        self.told(line)
     }
 
     // Passes the next line feed, or goes to the end, and answers the new place.
-    pub fn skip(&mut self) -> (u32, usize)
+    pub fn skip(&mut self) -> Answer
         ensures input { input_of self.new ≡ input_of self.old }
         ensures place { self.new.place ≡ past_piece self.old }
-        ensures answer { result ≡ answer_of (Accepted self.new.place) }
+        ensures answer { result ≡ answer_of (Ok self.new.place) }
     {
-        self.place = past_feed(self.input, self.place);
-        Outcome::Accepted(self.place).answer()
+        self.place += piece_length(self.ahead());
+        answer(Ok(self.place))
     }
 
     // Whether no byte is left.
@@ -71,23 +103,15 @@ impl<'a> LineReader<'a> {
         self.place == self.input.len()
     }
 
-    // Passes the next line feed, or goes to the end, unless a line was accepted.
-    fn skip_unless(&mut self, accepted: bool)
-        ensures input { input_of self.new ≡ input_of self.old }
-        ensures place { self.new.place ≡ (if accepted then self.old.place else past_piece self.old) }
-    {
-        if !accepted {
-            self.skip();
-        }
-    }
-
     // Reads a line, and passes what is not a line.
-    pub fn next_line(&mut self) -> ((u32, usize), Line)
-        ensures hears { Hears self.old self.new result.0 (said result.1) }
+    pub fn next_line(&mut self) -> (Answer, Line)
+        ensures hears { Hears self.old self.new result.0 result.1 }
         ensures exact { LineExact }
     {
-        let ((number, value), line) = self.read();
-        self.skip_unless(number == 0);
-        ((number, value), line)
+        let line = self.accept();
+        if line.is_none() {
+            self.skip();
+        }
+        self.told(line)
     }
 }

@@ -9,5 +9,5 @@ pub returns : goal.returns
 returns g c = λ ns b.
     let r = c.new-reader.result in
     let whole : ahead r ≡ c.args.bytes.now = ap (λ k. drop k (input_of r)) c.new-reader.ensures.place ∙ c.new-reader.ensures.input in
-    let read = c.read.ensures.reads.complete Offr ns (subst (λ bs. Begins bs Offr ns) (sym whole) b) in
+    let read = c.read-line.ensures.reads.complete Offr ns (subst (λ bs. Begins bs Offr ns) (sym whole) b) in
     c.state_in.ensures ∙ ap (g.L.Loggable.restored c.args.system.now) read.2

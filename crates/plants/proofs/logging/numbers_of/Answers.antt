@@ -1,24 +1,15 @@
--- Each turn writes one number more.
-use Rattle.std.proofs.Common.{ℕ, ◌*◌, get_or, take, set, ap, ◌∙◌, arith}
-use Rattle.std.proofs.lemmas.List.FromFn.{fill_by_all}
-use Rattle.std.proofs.lemmas.List.Edits.{fill_by_more}
-use Rattle.std.proofs.lemmas.List.{get_or-take, length-set, length-take-le}
-use Rattle.plants.specs.Numbers.{per_task, number_at, state_numbers}
+-- Each record's place has its four numbers.
+use Rattle.std.proofs.Common.{◌≡◌, [], length, map, sym, ◌∙◌, arith, rules}
+use Rattle.std.proofs.lemmas.List.{ext_get_or, get_or-map, length-map}
+use Rattle.plants.specs.Limits.{most_tasks}
+use Rattle.plants.specs.Records.{blank}
+use Rattle.plants.specs.Numbers.{record_numbers}
 use Rattle.plants.proofs.logging.numbers_of.Goals as goal
 
-pub loop-k-preserved : goal.loop-k-preserved
-loop-k-preserved c =
-    let xs = c.loop-k.numbers in
-    let f = number_at c.args.state.now.records in (
-      length-set xs c.loop-k.k _ ∙ c.loop-k.invariant.0,
-      λ k lt. ap (λ (v : ℕ). get_or (set xs c.loop-k.k v) k 0) c.number_at.ensures
-          ∙ fill_by_more f xs c.loop-k.k 0 (omega (arith, c.loop-k.invariant.0)) c.loop-k.invariant.1 k lt,
-    )
-
 pub returns : goal.returns
-unfolding state_numbers
 returns c =
-    let xs = c.loop-k.numbers in
-    let m = per_task * c.args.n in
-    fill_by_all (number_at c.args.state.now.records) (take m xs) m 0 (length-take-le m xs (omega (arith, c.loop-k.invariant.0)))
-    (λ k lt. get_or-take m xs k 0 lt ∙ c.loop-k.invariant.1 k (omega arith))
+    let rs = c.args.state.now.records in
+    let made = c.map.ensures.items in
+    let long : length rs ≡ most_tasks = search rules in
+    ext_get_or [] c.map.result (map record_numbers rs) (omega (arith, made.long, length-map rs record_numbers))
+    (λ k lt. (made.at k blank [] (omega (arith, made.long))).2.met ∙ sym (get_or-map record_numbers rs k blank [] (omega (arith, made.long))))

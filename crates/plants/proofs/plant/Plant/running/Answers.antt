@@ -1,6 +1,6 @@
 -- Under the policy's law exactly one ready task runs on a resource that has a ready one.
-use Rattle.std.proofs.Common.{subst}
-use Rattle.plants.specs.Below.{Finds}
+use Rattle.std.proofs.Common.{◌≡◌, subst}
+use Rattle.plants.specs.Below.{first_below}
 use Rattle.plants.specs.Tick.{runs_on}
 use Rattle.plants.specs.Rules.{claiming_state}
 use Rattle.plants.proofs.OneRuns.{names_running}
@@ -11,4 +11,4 @@ returns g c =
     let p = c.args.self.now in
     let order = g.P.Policy.order p.policy in
     names_running order (g.met.P.Policy.lawful p.policy) p.layout (claiming_state p.layout c.args.choice c.args.state.now) c.args.resource c.first_running.result
-    (subst (λ rs. Finds (runs_on order p.layout rs c.args.resource) p.layout.count c.first_running.result) c.claiming-claims.ensures c.first_running.ensures)
+    (subst (λ rs. c.first_running.result ≡ first_below (runs_on order p.layout rs c.args.resource) p.layout.count) c.claiming.ensures c.first_running.ensures)

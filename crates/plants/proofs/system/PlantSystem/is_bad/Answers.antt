@@ -5,6 +5,6 @@ use Rattle.plants.proofs.system.PlantSystem.is_bad.Goals as goal
 
 pub returns : goal.returns
 returns g c = record {
-  reply = c.is_bad.ensures;
-  rules = Decides-at _ _ c.is_bad.ensures (bad_decides c.args.self.now.layout c.args.state.now);
+  reply = c.has_late.ensures;
+  rules = Decides-at _ _ c.has_late.ensures (bad_decides c.args.self.now.layout c.args.state.now);
 }

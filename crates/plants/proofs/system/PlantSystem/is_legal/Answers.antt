@@ -9,6 +9,6 @@ returns g c =
     let l = c.args.self.now.layout in
     let v = valid_parts l c.args.self.now.valid in
     record {
-      reply = c.is_legal.ensures;
-      rules = by_rules (g.P.Policy.order c.args.self.now.policy) l c.args.choice c.args.state.now v _ _ c.is_legal.ensures refl;
+      reply = c.allows.ensures;
+      rules = by_rules (g.P.Policy.order c.args.self.now.policy) l c.args.choice c.args.state.now v _ _ c.allows.ensures refl;
     }

@@ -10,6 +10,6 @@ returns g c =
     let l = c.args.self.now.layout in
     let v = valid_parts l c.args.self.now.valid in
     record {
-      reply = c.next.ensures;
-      rules = by_rules (g.P.Policy.order c.args.self.now.policy) l c.args.choice c.args.state.now v _ _ refl (of_records _ _ c.next.ensures);
+      reply = c.after_tick.ensures;
+      rules = by_rules (g.P.Policy.order c.args.self.now.policy) l c.args.choice c.args.state.now v _ _ refl (of_records _ _ c.after_tick.ensures);
     }

@@ -10,5 +10,5 @@ returns c =
     record {
       answer = w.answer;
       after = w.after;
-      back = state_line _ _ _ (chart_numbered x.entries x.few_steps) c.args.state.now c.args.out.now _ _ w.answer w.after;
+      back = state_line _ _ _ (chart_numbered x.entries x.valid.few_steps) c.args.state.now c.args.out.now _ _ w.answer w.after;
     }

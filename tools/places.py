@@ -35,7 +35,7 @@ def text(name):
 
 FILES = {name: text(name) for name in names()}
 LINES = [(name, k + 1, line) for name, whole in FILES.items() for k, line in enumerate(whole.split("\n"))]
-FUNCTION = re.compile(r"\bfn (\w+)\s*(?:<[^(]*>)?\(([^{;]*?)\)\s*(?:->\s*([^{;\n]+))?\n((?:\s+(?:requires|ensures)[^\n]*\n)*)", re.S)
+FUNCTION = re.compile(r"\bfn (\w+)\s*(?:<[^(]*>)?\(((?:\[[^\]]*\]|[^{;\[])*?)\)\s*(?:->\s*((?:\[[^\]]*\]|[^{;\n\[])+?))?\s*\{?\n((?:\s+(?:requires|ensures)[^\n]*\n)*)")
 FUNCTIONS = [(name, m.group(1), " ".join(m.group(2).split()), (m.group(3) or "").strip(), m.group(4)) for name, whole in FILES.items() for m in FUNCTION.finditer(whole)]
 TESTS = ("session_tests", "plants_tests", "logging_tests")
 
@@ -63,14 +63,46 @@ def enums():
     show("1e numbers for kinds", matching(r"const (FIFO|FIXED_PRIORITY|EARLIEST_DEADLINE|NOT_PREEMPTIVE|PREEMPTIVE): u32"))
     returned = [f"{name}:{k}" for name, k, line in LINES if re.search(r"^\s+return None;", line) and re.search(r"else \{$", FILES[name].split("\n")[k - 2])]
     show("1f `let .. else { return None; }`", returned)
+    show("1h numbers for kinds as parameters and fields", matching(r"\b(policy|preempt|forbidden): u32"))
     show("1g flags", matching(r"^\s+(pub(\(crate\))? )?\w+: bool,?$"))
+
+
+def bodies(whole):
+    """The name and the body of each function."""
+    lines = whole.split("\n")
+    for k, line in enumerate(lines):
+        head = re.match(r"(\s*)(?:pub(?:\(crate\))? )?fn (\w+)", line)
+        if not head:
+            continue
+        begin = next((j for j in range(k, len(lines)) if lines[j].rstrip().endswith("{") or lines[j].rstrip().endswith(";")), None)
+        if begin is None or lines[begin].rstrip().endswith(";"):
+            continue
+        end = next(j for j in range(begin, len(lines)) if lines[j] == head.group(1) + "}")
+        yield head.group(2), "\n".join(line for line in lines[begin + 1:end] if not line.strip().startswith("//"))
+
+
+def twins():
+    """Functions whose bodies are alike but for names, numbers, arguments and paths."""
+    shapes = collections.defaultdict(list)
+    for name, whole in FILES.items():
+        if any(crate in name for crate in TESTS):
+            continue
+        for function, body in bodies(whole):
+            shape = re.sub(r"\d+", "x", re.sub(r"[A-Za-z_]\w*", "x", body)).replace("&", "").replace("x x", "x")
+            shape = re.sub(r"\bx(?:(?:\.|::)x)+", "x", re.sub(r"\s+", " ", shape)).strip()
+            shape = re.sub(r"x \{ (?:x(?:: x)?,? ?)+\}", "x", shape)
+            for _ in range(3):
+                shape = re.sub(r"x(?:\((?:x,? ?)*\)|\[x\])(?:\.x)*", "x", shape)
+            if len(shape) >= 20:
+                shapes[shape].append(f"{name}: {function}")
+    show("2 functions of one shape", [" = ".join(names) for names in shapes.values() if len(names) > 1])
 
 
 def loops():
     show("3a loops over a range", matching(r"^\s*for \w+ in [^ ]*\.\."))
     show("3b `while` loops", matching(r"^\s*while "))
     show("3c loops that count beside their items", matching(r"^\s*for \(\w+, \w+\) in .*enumerate"))
-    show("3d counters", matching(r"^\s+\w+ \+= (1|COLUMN);"))
+    show("3d counters", matching(r"^\s+\w+ \+= (1|COLUMN);|^\s+\S+ = \S+\.saturating_add\("))
 
 
 def by_hand():
@@ -103,7 +135,7 @@ def buffers():
 
 def switches():
     show("7a `match`", matching(r"\bmatch "))
-    show("7b closures", matching(r"\|\w*(, \w+)*\| |move \|"))
+    show("7b closures", matching(r"[(,]\s*(move )?\|[\w&]*(, \w+)*\| ?"))
 
 
 def proofs():
@@ -119,6 +151,7 @@ def proofs():
 
 
 enums()
+twins()
 loops()
 by_hand()
 facts()

@@ -1,63 +1,55 @@
 -- Call by call, where an input leads from a step is where the last accepted lead for the two goes, or the step itself.
-use Rattle.std.proofs.Common.{◌≡◌, ℕ, ◌<◌, ◌≤◌, true, false, not, ◌&&◌, eqb, ltb, ◌≢◌, ◌⊎◌, List, [], ◌∷◌, length, get_or, set, sym, refl, ap, ◌∙◌, subst, inl, inr, ⊎_elim, arith, lit≤, length-set}
-use lib.ListN.{get_or-replicate}
-use Rattle.std.proofs.lemmas.List.{get_or-set_same, get_or-set_other}
+use Rattle.std.proofs.Common.{◌≡◌, ℕ, ◌+◌, ◌<◌, ◌≤◌, true, false, not, ◌&&◌, eqb, ltb, ◌≢◌, ◌⊎◌, List, [], ◌∷◌, ◌++◌, length, get_or, set, sym, refl, ap, ◌∙◌, subst, inl, inr, ⊎_elim, arith, lit≤, length-set}
+use lib.ListN.{get_or-replicate, get_or-append}
+use Rattle.std.proofs.lemmas.List.{get_or-set_same, get_or-set_other, get_or_push, length_push}
 use Rattle.std.proofs.lemmas.Bool.{cond-true, cond-false, cond_both, cases_Bool, cases_eq, cases_lt, ltb-true, and_parts}
 use Rattle.std.proofs.lemmas.Bool.Decides.{nat_tests}
 use Rattle.systems.specs.Outcomes.{accepts}
-use Rattle.charts.specs.Entries.{most_steps, most_inputs, leading, no_step, step_at, lead_at, begun, relead, add_step, with_step, add_input, with_input, set_lead, with_lead}
+use Rattle.charts.specs.Entries.{most_inputs, leading, step_count, no_step, step_at, lead_at, begun, relead, add_step, with_step, add_input, with_input, set_lead, with_lead}
 use Rattle.charts.specs.Charts.{fits, bad, legal}
 use Rattle.charts.specs.Leads.{Call, AddStep, AddInput, SetLead, after, past, NoLead, LastLead, Goes, FollowsLeads}
 use Rattle.charts.specs.declared.entries.Step.{Step}
 use Rattle.charts.specs.declared.entries.Entries.{Entries}
 
--- the table has a row for every step, and each row a place for every input
+-- every step has a place for every input
 record Sized (e : Entries) : Type 0 where
-  few_steps : e.steps ≤ most_steps
   few_inputs : e.inputs ≤ most_inputs
-  rows : length e.table ≡ most_steps
-  row : (s : ℕ) → s < most_steps → length (step_at e s).leads ≡ most_inputs
+  row : (s : ℕ) → s < step_count e → length (step_at e s).leads ≡ most_inputs
 
 sized_begun : Sized begun
 sized_begun = record {
-  few_steps = lit≤ tt;
   few_inputs = lit≤ tt;
-  rows = refl;
-  row = λ s h. ap (λ (x : Step). length x.leads) (get_or-replicate most_steps s (leading false 0) no_step h);
+  row = λ s h. let first : s ≡ 0 = omega arith in subst (λ j. length (step_at begun j).leads ≡ most_inputs) (sym first) refl;
 }
-
--- a row written anew has the size of any other
-row_written : (e : Entries) (n s : ℕ) (d : Step) → Sized e → n < most_steps → length d.leads ≡ most_inputs → s < most_steps → length (get_or (set e.table n d) s no_step).leads ≡ most_inputs
-row_written e n s d z h l k = ⊎_elim
-    (λ (same : s ≡ n). subst (λ j. length (get_or (set e.table n d) j no_step).leads ≡ most_inputs) (sym same) (ap (λ (x : Step). length x.leads) (get_or-set_same e.table n d no_step (omega (arith, z.rows))) ∙ l))
-    (λ (ne : s ≢ n). ap (λ (x : Step). length x.leads) (get_or-set_other e.table n s d no_step ne) ∙ z.row s k)
-    (cases_eq s n)
 
 sized_after : (e : Entries) (c : Call) → Sized e → Sized (after e c)
 sized_after e (AddStep forbidden) z = cond_both (accepts (add_step e forbidden)) _ e Sized
     (λ a.
-    let room : e.steps < most_steps = grind (arith, nat_tests) in
+    let d = leading (eqb forbidden 1) (step_count e) in
     record {
-      few_steps = omega arith;
       few_inputs = z.few_inputs;
-      rows = simp length-set z.rows;
-      row = λ s h. row_written e e.steps s (leading (eqb forbidden 1) e.steps) z room refl h;
+      row = λ s h. ⊎_elim
+          (λ (lt : s < step_count e). ap (λ (x : Step). length x.leads) (get_or-append e.steps.items (d ∷ []) no_step s lt) ∙ z.row s lt)
+          (λ (le : step_count e ≤ s). ap (λ (x : Step). length x.leads) (get_or_push e.steps.items d no_step s (omega (arith, h, length_push e.steps.items d))))
+          (cases_lt s (step_count e));
     })
     (λ _. z)
 sized_after e AddInput z = cond_both (accepts (add_input e)) _ e Sized
     (λ a.
     let room : e.inputs < most_inputs = grind (arith, nat_tests) in
-    record { few_steps = z.few_steps; few_inputs = omega arith; rows = z.rows; row = z.row })
+    record { few_inputs = omega arith; row = z.row })
     (λ _. z)
 sized_after e (SetLead step input next) z = cond_both (accepts (set_lead e step input next)) _ e Sized
     (λ a.
-    let entered : step < e.steps = grind (arith, nat_tests) in
-    let h : step < most_steps = omega (arith, z.few_steps) in
+    let entered : step < step_count e = grind (arith, nat_tests) in
+    let d = relead (step_at e step) input next in
+    let steps : List Step = set e.steps.items step d in
     record {
-      few_steps = z.few_steps;
       few_inputs = z.few_inputs;
-      rows = simp length-set z.rows;
-      row = λ s k. row_written e step s (relead (step_at e step) input next) z h (simp length-set (z.row step h)) k;
+      row = λ s h. ⊎_elim
+          (λ (same : s ≡ step). subst (λ j. length (get_or steps j no_step).leads ≡ most_inputs) (sym same) (ap (λ (x : Step). length x.leads) (get_or-set_same e.steps.items step d no_step entered) ∙ simp length-set (z.row step entered)))
+          (λ (ne : s ≢ step). ap (λ (x : Step). length x.leads) (get_or-set_other e.steps.items step s d no_step ne) ∙ z.row s (omega (arith, h, length-set e.steps.items step d)))
+          (cases_eq s step);
     })
     (λ _. z)
 
@@ -67,8 +59,8 @@ sized_past (c ∷ cs) e z = sized_past cs (after e c) (sized_after e c z)
 
 -- the input leads from the step to n; where the step is not entered yet, n is the step
 record At (e : Entries) (s i n : ℕ) : Type 0 where
-  entered : s < e.steps → lead_at e s i ≡ n
-  not_yet : e.steps ≤ s → n ≡ s
+  entered : s < step_count e → lead_at e s i ≡ n
+  not_yet : step_count e ≤ s → n ≡ s
 
 at_begun : (s i : ℕ) → i < most_inputs → At begun s i s
 at_begun s i h = record {
@@ -81,18 +73,16 @@ module _ (e : Entries) (z : Sized e) (s i : ℕ) where
   at_step : (n forbidden : ℕ) → i < most_inputs → At e s i n → At (with_step e forbidden) s i n
   at_step n forbidden h at = cond_both (accepts (add_step e forbidden)) _ e (λ x. At x s i n)
       (λ a.
-      let room : e.steps < most_steps = grind (arith, nat_tests) in
-      let d = leading (eqb forbidden 1) e.steps in
-      let row : ℕ → Step = λ j. get_or (set e.table e.steps d) j no_step in
+      let d = leading (eqb forbidden 1) (step_count e) in
+      let count : length (e.steps.items ++ d ∷ []) ≡ step_count e + 1 = length_push e.steps.items d in
       record {
         entered = λ k. ⊎_elim
-            (λ (lt : s < e.steps). let ne : s ≢ e.steps = omega arith in ap (λ (x : Step). get_or x.leads i 0) (get_or-set_other e.table e.steps s d no_step ne) ∙ at.entered lt)
-            (λ (le : e.steps ≤ s).
-            let same : s ≡ e.steps = omega (arith, k) in
-            let new : get_or (row e.steps).leads i 0 ≡ e.steps = ap (λ (x : Step). get_or x.leads i 0) (get_or-set_same e.table e.steps d no_step (omega (arith, z.rows))) ∙ get_or-replicate most_inputs i e.steps 0 h in
-            subst (λ j. get_or (row j).leads i 0 ≡ j) (sym same) new ∙ sym (at.not_yet le))
-            (cases_lt s e.steps);
-        not_yet = λ k. at.not_yet (omega arith);
+            (λ (lt : s < step_count e). ap (λ (x : Step). get_or x.leads i 0) (get_or-append e.steps.items (d ∷ []) no_step s lt) ∙ at.entered lt)
+            (λ (le : step_count e ≤ s).
+            let same : step_count e ≡ s = omega (arith, count, k) in
+            ap (λ (x : Step). get_or x.leads i 0) (get_or_push e.steps.items d no_step s same) ∙ get_or-replicate most_inputs i (step_count e) 0 h ∙ same ∙ sym (at.not_yet le))
+            (cases_lt s (step_count e));
+        not_yet = λ k. at.not_yet (omega (arith, count, k));
       })
       (λ _. at)
 
@@ -103,28 +93,30 @@ module _ (e : Entries) (z : Sized e) (s i : ℕ) where
   -- an accepted lead for the step and the input goes where it says
   at_lead : (n : ℕ) → i < most_inputs → accepts (set_lead e s i n) ≡ true → At (with_lead e s i n) s i n
   at_lead n h a =
-      let step : s < e.steps = grind (arith, nat_tests) in
+      let step : s < step_count e = grind (arith, nat_tests) in
       let d = relead (step_at e s) i n in
-      let row = ap (λ (x : Step). get_or x.leads i 0) (get_or-set_same e.table s d no_step (omega (arith, z.rows, z.few_steps))) in
+      let row = ap (λ (x : Step). get_or x.leads i 0) (get_or-set_same e.steps.items s d no_step step) in
       subst (λ x. At x s i n) (sym (cond-true (accepts (set_lead e s i n)) _ e a))
       (record {
-        entered = λ _. row ∙ get_or-set_same (step_at e s).leads i n 0 (omega (arith, z.row s (omega (arith, z.few_steps))));
-        not_yet = λ k. absurd (omega arith);
+        entered = λ _. row ∙ get_or-set_same (step_at e s).leads i n 0 (omega (arith, z.row s step));
+        not_yet = λ k. absurd (omega (arith, k, length-set e.steps.items s d));
       })
 
   -- a lead for another step or another input changes nothing
   at_other : (n step input next : ℕ) → (step ≢ s) ⊎ (input ≢ i) → At e s i n → At (with_lead e step input next) s i n
   at_other n step input next other at = cond_both (accepts (set_lead e step input next)) _ e (λ x. At x s i n)
       (λ a.
-      let inside : step < e.steps = grind (arith, nat_tests) in
+      let inside : step < step_count e = grind (arith, nat_tests) in
       let d = relead (step_at e step) input next in
-      let kept : get_or (get_or (set e.table step d) s no_step).leads i 0 ≡ lead_at e s i = ⊎_elim
+      let steps : List Step = set e.steps.items step d in
+      let count : length steps ≡ step_count e = length-set e.steps.items step d in
+      let kept : get_or (get_or steps s no_step).leads i 0 ≡ lead_at e s i = ⊎_elim
       (λ (same : s ≡ step).
       let ne : i ≢ input = λ q. ⊎_elim (λ (p : step ≢ s). p (sym same)) (λ (p : input ≢ i). p (sym q)) other in
-      subst (λ j. get_or (get_or (set e.table step d) j no_step).leads i 0 ≡ lead_at e j i) (sym same) (ap (λ (x : Step). get_or x.leads i 0) (get_or-set_same e.table step d no_step (omega (arith, z.rows, z.few_steps))) ∙ get_or-set_other (step_at e step).leads input i next 0 ne))
-      (λ (ne : s ≢ step). ap (λ (x : Step). get_or x.leads i 0) (get_or-set_other e.table step s d no_step ne))
+      subst (λ j. get_or (get_or steps j no_step).leads i 0 ≡ lead_at e j i) (sym same) (ap (λ (x : Step). get_or x.leads i 0) (get_or-set_same e.steps.items step d no_step inside) ∙ get_or-set_other (step_at e step).leads input i next 0 ne))
+      (λ (ne : s ≢ step). ap (λ (x : Step). get_or x.leads i 0) (get_or-set_other e.steps.items step s d no_step ne))
       (cases_eq s step) in
-      record { entered = λ k. kept ∙ at.entered k; not_yet = at.not_yet })
+      record { entered = λ k. kept ∙ at.entered (omega (arith, count, k)); not_yet = λ k. at.not_yet (omega (arith, count, k)) })
       (λ _. at)
 
 -- one call: an accepted lead for the step and the input, or one that leaves where they lead as it was
@@ -197,7 +189,7 @@ all_calls (c ∷ cs) e s i n z h at = ⊎_elim
     (all_calls cs (after e c) s i n (sized_after e c z) h kept.1))
     (one_call e c s i n z h at)
 
-goes : (calls : List Call) (s i : ℕ) → s < (past begun calls).steps → i < (past begun calls).inputs → Goes calls s i (lead_at (past begun calls) s i)
+goes : (calls : List Call) (s i : ℕ) → s < step_count (past begun calls) → i < (past begun calls).inputs → Goes calls s i (lead_at (past begun calls) s i)
 goes calls s i hs hi =
     let h : i < most_inputs = omega (arith, (sized_past calls begun sized_begun).few_inputs) in
     ⊎_elim
@@ -207,12 +199,12 @@ goes calls s i hs hi =
 
 pub follows_leads : (e : Entries) → FollowsLeads e
 follows_leads e =
-    let leads : (calls : List Call) → past begun calls ≡ e → (s i : ℕ) → s < e.steps → i < e.inputs → Goes calls s i (lead_at e s i) =
-    λ calls q s i. subst (λ x. s < x.steps → i < x.inputs → Goes calls s i (lead_at x s i)) q (goes calls s i) in
+    let leads : (calls : List Call) → past begun calls ≡ e → (s i : ℕ) → s < step_count e → i < e.inputs → Goes calls s i (lead_at e s i) =
+    λ calls q s i. subst (λ x. s < step_count x → i < x.inputs → Goes calls s i (lead_at x s i)) q (goes calls s i) in
     record {
       leads = leads;
       next_steps = λ calls q s i l.
           let p = and_parts (ltb i e.inputs) (fits e s && not (bad e s)) l in
           let f = and_parts (fits e s) (not (bad e s)) p.1 in
-          subst (λ n. Goes calls s i n) (sym (cond-true (legal e s i) (lead_at e s i) s l)) (leads calls q s i (ltb-true s e.steps f.0) (ltb-true i e.inputs p.0));
+          subst (λ n. Goes calls s i n) (sym (cond-true (legal e s i) (lead_at e s i) s l)) (leads calls q s i (ltb-true s (step_count e) f.0) (ltb-true i e.inputs p.0));
     }

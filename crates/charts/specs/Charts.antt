@@ -1,12 +1,12 @@
 -- What a chart means as a system: the states are the steps, the choices the inputs.
 use Rattle.std.specs.Prelude.{ℕ, Bool, cond, not, ◌&&◌, nat_lt, eqb}
 use Rattle.systems.specs.Systems.{Meaning}
-use Rattle.charts.specs.Entries.{step_at, lead_at}
+use Rattle.charts.specs.Entries.{step_count, step_at, lead_at}
 use Rattle.charts.specs.declared.entries.Entries.{Entries}
 
 -- a step fits when it is entered
 abbrev pub fits : Entries → ℕ → Bool
-fits e s = nat_lt s e.steps
+fits e s = nat_lt s (step_count e)
 
 -- it is bad when it is entered and forbidden
 abbrev pub bad : Entries → ℕ → Bool

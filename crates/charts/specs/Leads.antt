@@ -1,7 +1,7 @@
 -- The calls made on a draft chart, and where an input leads from a step by the leads among them.
 use Rattle.std.specs.Prelude.{◌≡◌, ℕ, ◌<◌, true, false, ◌⊎◌, List, [], ◌∷◌, ◌++◌, fold}
 use Rattle.systems.specs.Outcomes.{accepts}
-use Rattle.charts.specs.Entries.{begun, lead_at, with_step, with_input, set_lead, with_lead}
+use Rattle.charts.specs.Entries.{begun, step_count, lead_at, with_step, with_input, set_lead, with_lead}
 use Rattle.charts.specs.Charts.{legal, next}
 use Rattle.charts.specs.declared.entries.Entries.{Entries}
 
@@ -41,7 +41,7 @@ abbrev pub Goes : List Call → ℕ → ℕ → ℕ → Type 0
 Goes calls s i n = LastLead begun calls s i n ⊎ (NoLead begun calls s i × (n ≡ s))
 
 -- whatever calls led from the empty draft to the entries: by these calls an entered input leads from an entered step
--- where the table says, and a legal input to the next step that the chart replies
+-- where the step says, and a legal input to the next step that the chart replies
 pub record FollowsLeads (e : Entries) : Type 0 where
-  pub leads : (calls : List Call) → past begun calls ≡ e → (s i : ℕ) → s < e.steps → i < e.inputs → Goes calls s i (lead_at e s i)
+  pub leads : (calls : List Call) → past begun calls ≡ e → (s i : ℕ) → s < step_count e → i < e.inputs → Goes calls s i (lead_at e s i)
   pub next_steps : (calls : List Call) → past begun calls ≡ e → (s i : ℕ) → legal e s i ≡ true → Goes calls s i (next e s i)

@@ -3,7 +3,7 @@ use Rattle.std.specs.Prelude.{◌≡◌, ℕ, ◌≤◌, List, [], ◌∷◌, So
 use Rattle.std.proofs.Common.{arith}
 use Rattle.std.proofs.lemmas.Bool.Decides.{nat_tests}
 use Rattle.lines.specs.Logging.{Numbered}
-use Rattle.charts.specs.Entries.{most_steps}
+use Rattle.charts.specs.Entries.{most_steps, step_count}
 use Rattle.charts.specs.Charts.{chart_meaning}
 use Rattle.charts.specs.Numbers.{step_numbers, step_of}
 use Rattle.charts.specs.declared.entries.Entries.{Entries}
@@ -13,7 +13,7 @@ only_list step [] e = let z : ◌≡◌ {A = ℕ} 0 1 = cc in absurd (omega arit
 only_list step (n ∷ []) e = cc
 only_list step (n ∷ m ∷ ns) e = let z : ◌≡◌ {A = ℕ} 0 1 = cc in absurd (omega arith)
 
-pub chart_numbered : (e : Entries) → e.steps ≤ most_steps → Numbered (chart_meaning e) step_numbers step_of
+pub chart_numbered : (e : Entries) → step_count e ≤ most_steps → Numbered (chart_meaning e) step_numbers step_of
 chart_numbered e few = record {
   few = λ step f. omega arith;
   small_numbers = λ step f. grind (arith, nat_tests);

@@ -1,7 +1,8 @@
 // What has been entered into a chart.
-ghost use Rattle.std.specs.Prelude.{◌≡◌, ◌≤◌, length};
-ghost use Rattle.charts.specs.Entries.{most_steps, most_inputs, begun as first_entries, add_step as step_entry, with_step as step_added, add_input as input_entry, with_input as input_added, set_lead as lead_entry, with_lead as lead_added};
+ghost use Rattle.std.specs.Prelude.{◌≡◌, ◌≤◌};
+ghost use Rattle.charts.specs.Entries.{most_inputs, begun as first_entries, add_step as step_entry, with_step as step_added, add_input as input_entry, with_input as input_added, set_lead as lead_entry, with_lead as lead_added};
 
+use arrayvec::ArrayVec;
 use systems::outcome::{Outcome, Refusal};
 
 // The most steps and inputs of a chart, those it begins with included.
@@ -9,19 +10,19 @@ pub(crate) const MOST_STEPS: usize = 64;
 
 pub(crate) const MOST_INPUTS: usize = 8;
 
-// One step: whether it is forbidden, so that no run may come to it, and the step to which each input leads from it.
-#[derive(Clone, Copy)]
+// One step: whether it is forbidden, so that no run may come to it, and the step to which each input leads from it. A
+// flag is plainest here: it makes no other field good or not.
+#[derive(Clone, Copy, Default)]
 pub(crate) struct Step {
     pub(crate) forbidden: bool,
     pub(crate) leads: [u8; MOST_INPUTS],
 }
 
-// The steps entered are those below `steps`, the inputs those below `inputs`.
-#[derive(Clone, Copy)]
+// The steps entered, and how many inputs are: one count for all steps, each of which has a lead for every input.
+#[derive(Drop)]
 pub(crate) struct Entries {
-    pub(crate) steps: usize,
+    pub(crate) steps: ArrayVec<Step, MOST_STEPS>,
     pub(crate) inputs: usize,
-    pub(crate) table: [Step; MOST_STEPS],
 }
 
 impl Entries {
@@ -29,35 +30,30 @@ impl Entries {
     pub(crate) fn begun() -> Entries
         ensures { result ≡ first_entries }
     {
-        let unused = Step {
+        let mut steps = ArrayVec::new();
+        steps.push(Step {
             forbidden: false,
             leads: [0; MOST_INPUTS],
-        };
-        Entries {
-            steps: 1,
-            inputs: 1,
-            table: [unused; MOST_STEPS],
-        }
+        });
+        Entries { steps, inputs: 1 }
     }
 
-    // Enters a step, from which every input leads to the step itself.
+    // Enters a step, from which every input leads to the step itself. A number, as any but 0 and 1 is refused.
     pub(crate) fn add_step(&mut self, forbidden: u32) -> Outcome
         ensures outcome { result ≡ step_entry self.old forbidden }
         ensures after { self.new ≡ step_added self.old forbidden }
-        ensures sized { length self.old.table ≡ most_steps }
     {
-        let step = self.steps;
-        if step >= MOST_STEPS {
+        if self.steps.is_full() {
             return Err(Refusal::NoRoom);
         }
         if forbidden > 1 {
             return Err(Refusal::FieldOutside(1));
         }
-        self.table[step] = Step {
+        let step = self.steps.len();
+        self.steps.push(Step {
             forbidden: forbidden == 1,
             leads: [step as u8; MOST_INPUTS],
-        };
-        self.steps = step + 1;
+        });
         Ok(step)
     }
 
@@ -76,21 +72,20 @@ impl Entries {
 
     // Sets the lead from a step by an input.
     pub(crate) fn set_lead(&mut self, step: u32, input: u32, next: u32) -> Outcome
-        requires { (self.old.steps ≤ most_steps) × (self.old.inputs ≤ most_inputs) }
+        requires { self.old.inputs ≤ most_inputs }
         ensures outcome { result ≡ lead_entry self.old step input next }
         ensures after { self.new ≡ lead_added self.old step input next }
-        ensures sized { length self.old.table ≡ most_steps }
     {
-        if step as usize >= self.steps {
+        if step as usize >= self.steps.len() {
             return Err(Refusal::FieldOutside(1));
         }
         if input as usize >= self.inputs {
             return Err(Refusal::FieldOutside(2));
         }
-        if next as usize >= self.steps {
+        if next as usize >= self.steps.len() {
             return Err(Refusal::FieldOutside(3));
         }
-        self.table[step as usize].leads[input as usize] = next as u8;
+        self.steps[step as usize].leads[input as usize] = next as u8;
         Ok(0)
     }
 }

@@ -1,16 +1,16 @@
 -- A line is found part by part, or its bytes are no line.
-use Rattle.std.proofs.Common.{◌≡◌, ℕ, ◌+◌, ◌≤◌, true, leb, List, [], ◌∷◌, ◌++◌, length, take, drop, Some, sym, refl, ap, ◌∙◌, append_assoc, arith, length-drop}
+use Rattle.std.proofs.Common.{◌≡◌, ℕ, ◌+◌, ◌≤◌, true, leb, List, [], ◌∷◌, ◌++◌, length, take, drop, Some, sym, refl, subst, ap, ◌∙◌, append_assoc, arith, length-drop}
 use Rattle.std.proofs.lemmas.List.{take-append-drop}
 use Rattle.std.proofs.lemmas.Bool.{and_parts, and_from, leb-true, le-leb}
 use Rattle.std.proofs.lemmas.Bool.Decides.{nat_tests}
 use Rattle.std.proofs.lemmas.List.Folds.{list_all-append}
 use Rattle.std.proofs.lemmas.Slice.Eq.{bytes_eq-Decides}
-use Rattle.lines.specs.Spelling.{letters, column, columns, small, counts, largest, most, feed}
-use Rattle.lines.specs.Parts.{ColumnFirst, NumbersFirst}
+use Rattle.lines.specs.Spelling.{letters, column, columns, small, counts, largest, most, feed, Allowed, Begins}
+use Rattle.lines.specs.Parts.{TagFirst, ColumnFirst, NumbersFirst, LineFirst}
 use Rattle.lines.specs.Reading.{tags, tag_of}
 use Rattle.lines.specs.declared.tag.Tag.{Tag}
 use Rattle.lines.proofs.Columns.{columns_push}
-use Rattle.lines.proofs.Lines.{not_feed}
+use Rattle.lines.proofs.Lines.{not_feed, spelling_then, same_tag, same_after}
 
 -- bytes that begin with a part are that part and the rest
 pub front_then : (k : ℕ) (bs first rest part : List ℕ) → first ≡ take k bs → rest ≡ drop k bs → first ≡ part → bs ≡ part ++ rest
@@ -70,3 +70,16 @@ module _ (t : Tag) (k : ℕ) (bs : List ℕ) where
 pub column_next : (all ns bs rest : List ℕ) (n : ℕ) → all ≡ columns ns ++ bs → bs ≡ column n ++ rest → all ≡ columns (ns ++ n ∷ []) ++ rest
 column_next all ns bs rest n e q =
     e ∙ ap (λ x. columns ns ++ x) q ∙ sym (append_assoc (columns ns) (column n) rest) ∙ ap (λ x. x ++ rest) (sym (columns_push ns n))
+
+-- the whole line: there is none with no tag or no numbers after the tag, and one with both
+pub no_tag : (bs : List ℕ) → ((t : Tag) (rest : List ℕ) → TagFirst bs t rest → ⊥) → (u : Tag) (ms : List ℕ) → Begins bs u ms → ⊥
+no_tag bs h u ms b = h u (columns ms ++ (feed ∷ b.1.0)) (b.1.1 ∙ spelling_then u ms b.1.0)
+
+pub no_numbers : (bs mid : List ℕ) (t : Tag) → TagFirst bs t mid → ((ns rest : List ℕ) → NumbersFirst mid t ns rest → ⊥) → (u : Tag) (ms : List ℕ) → Begins bs u ms → ⊥
+no_numbers bs mid t e h u ms b =
+    let q : letters t ++ mid ≡ letters u ++ (columns ms ++ (feed ∷ b.1.0)) = sym e ∙ b.1.1 ∙ spelling_then u ms b.1.0 in
+    h ms b.1.0 (subst (λ v. Allowed v ms) (sym (same_tag t u _ _ q)) b.0, same_after t u _ _ q)
+
+pub both_parts : (bs mid rest : List ℕ) (t u : Tag) (ns : List ℕ) → TagFirst bs t mid → u ≡ t → NumbersFirst mid t ns rest → LineFirst bs u ns rest
+both_parts bs mid rest t u ns e s n =
+    subst (λ v. LineFirst bs v ns rest) (sym s) (n.0, e ∙ ap (λ x. letters t ++ x) n.1 ∙ sym (spelling_then t ns rest))

@@ -42,7 +42,8 @@ pub(crate) fn column(number: u32) -> [u8; COLUMN]
     ]
 }
 
-// What the bytes of a column are worth as digits; a space is worth nothing.
+// What the bytes of a column are worth as digits; a space is worth nothing. The library's parsing is no plainer here, as
+// it refuses spaces and takes signs.
 fn worth(column: &[u8; COLUMN]) -> u32
     ensures { result ≡ worthOf column.now }
 {

@@ -1,14 +1,13 @@
 // The parts of a line at the front of bytes, each with the bytes after it.
 ghost use Rattle.std.specs.Prelude.{◌≡◌, ℕ, List, MatchOption};
-ghost use Rattle.lines.specs.Spelling.{Begins};
-ghost use Rattle.lines.specs.Parts.{TagFirst, NumbersFirst, LineFirst};
+ghost use Rattle.lines.specs.Parts.{TagFirst, NumbersFirst};
 
 use crate::column::column_first;
 use crate::line::Line;
 use crate::tag::{LETTERS, Tag};
 
 // The tag.
-fn tag_first(bytes: &[u8]) -> Option<(Tag, &[u8])>
+pub(crate) fn tag_first(bytes: &[u8]) -> Option<(Tag, &[u8])>
     ensures { MatchOption result ((t : Tag) (rest : List ℕ) → TagFirst bytes.now t rest → ⊥) (λ p. TagFirst bytes.now p.0 p.1.now) }
 {
     let (name, rest) = bytes.split_first_chunk::<LETTERS>()?;
@@ -16,7 +15,7 @@ fn tag_first(bytes: &[u8]) -> Option<(Tag, &[u8])>
 }
 
 // The numbers of a tag, in their line, and the line feed.
-fn numbers_first(tag: Tag, bytes: &[u8]) -> Option<(Line, &[u8])>
+pub(crate) fn numbers_first(tag: Tag, bytes: &[u8]) -> Option<(Line, &[u8])>
     ensures { MatchOption result ((ns rest : List ℕ) → NumbersFirst bytes.now tag ns rest → ⊥) (λ p. (p.0.0 ≡ tag) × NumbersFirst bytes.now tag p.0.1 p.1.now) }
 {
     let mut line = Line::new(tag);
@@ -30,12 +29,4 @@ fn numbers_first(tag: Tag, bytes: &[u8]) -> Option<(Line, &[u8])>
     }
     let rest = left.strip_prefix(b"\n")?;
     tag.allows(line.numbers().len()).then_some((line, rest))
-}
-
-// The whole line.
-pub(crate) fn line_first(bytes: &[u8]) -> Option<(Line, &[u8])>
-    ensures { MatchOption result ((t : Tag) (ns : List ℕ) → Begins bytes.now t ns → ⊥) (λ p. LineFirst bytes.now p.0.0 p.0.1 p.1.now) }
-{
-    let (tag, rest) = tag_first(bytes)?;
-    numbers_first(tag, rest)
 }

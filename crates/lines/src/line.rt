@@ -17,7 +17,7 @@ pub const LONGEST: usize = LETTERS + COLUMN * MOST + 1;
 #[derive(Clone, Copy)]
 pub struct Line {
     tag: Tag,
-    // an array and a count: `arrayvec::ArrayVec` is not `Copy`, as a line is
+    // an array and a count: `arrayvec::ArrayVec` is not `Copy`, as a line is for its callers, by a rule of the project
     numbers: [u32; MOST],
     count: usize,
 }
@@ -57,7 +57,7 @@ impl Line {
         }
     }
 
-    // What stands beside a refusal, since calls answer a pair of numbers and a line.
+    // What stands beside a refusal: by a rule of the project a call answers a pair of numbers, and a line beside it.
     pub(crate) fn none() -> Line
         ensures { result ≡ no_line }
     {

@@ -46,7 +46,8 @@ fn decoded<L: Loggable>(system: &L, bytes: &[u8]) -> Option<L::State>
     state_in(system, &line)
 }
 
-// Writes a state as a line, reads the line and decodes it: a state that fits comes back, and the longest line has room for it.
+// Writes a state as a line, reads the line and decodes it: a state that fits comes back, and a buffer as long as the
+// longest line has room for it.
 pub fn reread<L: Loggable>(
     system: &L,
     state: &L::State,

@@ -3,7 +3,7 @@ ghost use Rattle.std.specs.Prelude.{◌≡◌, ◌≤◌, length, if◌then◌el
 
 pub mod calls;
 
-// The input, and the place from which the next line is read.
+// The input, and the place from which the next line is read: by a rule of the project no line is copied.
 #[derive(Drop)]
 pub struct LineReader<'a> {
     input: &'a [u8],
@@ -11,7 +11,7 @@ pub struct LineReader<'a> {
     ghost within: { place ≤ length input.now },
 }
 
-// Guards a place: it goes back to the first, unless the line was accepted.
+// By a rule of the project a guard of the borrowed place: it goes back to the first, unless the line was accepted.
 struct Guard<'a> {
     place: &'a mut usize,
     first: usize,

@@ -45,7 +45,7 @@ const TAGS: [Tag; 14] = [
 ];
 
 impl Tag {
-    // The letters that spell this tag; by a name, since `into` would not say that they are its letters.
+    // The letters that spell this tag. No `From`: at a call `into()` is no plainer than the name.
     pub(crate) fn name(self) -> [u8; LETTERS]
         ensures { result ≡ letters self }
     {
@@ -82,7 +82,7 @@ impl Tag {
         }
     }
 
-    // The tag that the bytes spell; no `TryFrom`, whose error would say nothing.
+    // The tag that the bytes spell. No `TryFrom`: its error would be dropped at the one call, which is no plainer.
     pub(crate) fn of(name: &[u8; LETTERS]) -> Option<Tag>
         ensures { result ≡ tag_of name.now tags }
     {

@@ -36,7 +36,7 @@ const DAMAGED: [&[u8]; 22] = [
     b"STEP     1",
 ];
 
-// What reading the bytes answers.
+// What reading the bytes answers: a call with its line left out, no plainer otherwise.
 fn answer(bytes: &[u8]) -> Answer {
     let mut reader = LineReader::new(bytes);
     let (answer, _) = reader.read();

@@ -38,10 +38,9 @@ fn one_task() -> Plant<SitePolicy> {
 }
 
 fn is_state(plant: &Plant<SitePolicy>, given: &[u32], state: &PlantState) -> bool {
-    match plant.state_of(given) {
-        Some(restored) => plant.same(&restored, state),
-        None => false,
-    }
+    plant
+        .state_of(given)
+        .is_some_and(|restored| plant.same(&restored, state))
 }
 
 #[test]

@@ -6,12 +6,12 @@ use Rattle.systems.specs.Outcomes.{Outcome}
 use Rattle.systems.specs.declared.outcome.Refusal.TheVariants.{FieldOutside, NoRoom, NotEntered}
 use Rattle.policies.specs.Classes.{classes}
 use Rattle.policies.specs.Orders.{earliest_deadline, preemptive}
-use Rattle.charts.specs.Entries.{most_steps, most_inputs, add_step, add_input, set_lead}
+use Rattle.charts.specs.Entries.{most_steps, most_inputs, step_count, add_step, add_input, set_lead}
 use Rattle.charts.specs.declared.entries.Entries.{Entries}
 use Rattle.charts.specs.Entries.{Valid as ChartValid}
 use Rattle.plants.specs.Limits.{most_ticks, most_resources, most_tasks}
 use Rattle.std.specs.List.{find, range_with_len}
-use Rattle.plants.specs.Layouts.{is_within, unlike, valid}
+use Rattle.plants.specs.Layouts.{is_within, unlike, valid, resource_count, task_count}
 use Rattle.plants.specs.Entries.{resource_comes_to, outside_field, if_inside, if_alike, task_comes_to}
 use Rattle.plants.specs.declared.layout.Layout.{Layout}
 use Rattle.plants.specs.declared.layout.TaskEntry.{TaskEntry}
@@ -48,20 +48,20 @@ alike rest h p zero a few = h
 alike rest h p (suc n) a few =
     cond_both (p a) (Some a) _ (λ o. Small (if_alike o rest)) (λ _. fits 6 a (lit≤ tt) (omega arith)) (λ _. alike rest h p n (a + 1) (omega arith))
 
-pub task_small : (l : Layout) (e : TaskEntry) → l.count ≤ most_tasks → Small (task_comes_to l e)
+pub task_small : (l : Layout) (e : TaskEntry) → task_count l ≤ most_tasks → Small (task_comes_to l e)
 task_small l e few =
-    cond_both (eqb l.count most_tasks) (Err NoRoom) _ Small
+    cond_both (eqb (task_count l) most_tasks) (Err NoRoom) _ Small
     (λ _. fits 4 0 (lit≤ tt) (lit≤ tt))
     (λ _. fields _
-    (cond_both (leb l.resource_count e.resource) (Err (NotEntered 8)) _ Small
+    (cond_both (leb (resource_count l) e.resource) (Err (NotEntered 8)) _ Small
     (λ _. fits 5 8 (lit≤ tt) (lit≤ tt))
-    (λ _. cond_both (ltb 0 (e.needs / 2 ^ l.count)) (Err (NotEntered 9)) _ Small
+    (λ _. cond_both (ltb 0 (e.needs / 2 ^ task_count l)) (Err (NotEntered 9)) _ Small
     (λ _. fits 5 9 (lit≤ tt) (lit≤ tt))
-    (λ _. alike (Ok l.count) (fits 0 _ (lit≤ tt) (omega arith)) (unlike l e) l.count 0 (omega arith))))
+    (λ _. alike (Ok (task_count l)) (fits 0 _ (lit≤ tt) (omega arith)) (unlike l e) (task_count l) 0 (omega arith))))
     e)
 
 -- a plant has few tasks, so its choices have numbers that fit a column
-pub few_choices : (l : Layout) → valid l ≡ true → 4 ^ l.count ≤ largest
+pub few_choices : (l : Layout) → valid l ≡ true → 4 ^ task_count l ≤ largest
 few_choices l v = omega (arith, pow-le-pow_right {n = 4} (lit< tt) (valid_parts l v).tasks_few)
 
 -- the other lines before a session
@@ -71,11 +71,11 @@ opening_small (Some k) tag = fits 0 0 (lit≤ tt) (lit≤ tt)
 
 resource_small : (l : Layout) (a b : ℕ) → Valid l → Small (resource_comes_to l a b)
 resource_small l a b v =
-    cond_both (eqb l.resource_count most_resources) (Err NoRoom) _ Small
+    cond_both (eqb (resource_count l) most_resources) (Err NoRoom) _ Small
     (λ _. fits 4 0 (lit≤ tt) (lit≤ tt))
     (λ _. cond_both (ltb earliest_deadline a) (Err (FieldOutside 1)) _ Small
     (λ _. fits 3 1 (lit≤ tt) (lit≤ tt))
-    (λ _. cond_both (ltb preemptive b) (Err (FieldOutside 2)) (Ok l.resource_count) Small
+    (λ _. cond_both (ltb preemptive b) (Err (FieldOutside 2)) (Ok (resource_count l)) Small
     (λ _. fits 3 2 (lit≤ tt) (lit≤ tt))
     (λ _. fits 0 _ (lit≤ tt) (omega (arith, v.resources_few)))))
 
@@ -83,12 +83,12 @@ pub plant_reply_small : (l : Layout) (tag : Tag) (ns : List ℕ) → Valid l →
 plant_reply_small l tag ns v =
     cond_both (is Rsrc tag) (resource_comes_to l (nth ns 0) (nth ns 1)) _ Small (λ _. resource_small l (nth ns 0) (nth ns 1) v)
     (λ _. cond_both (is Task tag) (task_comes_to l (task_of ns)) _ Small (λ _. task_small l (task_of ns) v.tasks_few)
-    (λ _. cond_both (is Fixd tag) (Ok l.count) (unheard tag) Small (λ _. fits 0 _ (lit≤ tt) (omega (arith, v.tasks_few))) (λ _. unheard_small tag)))
+    (λ _. cond_both (is Fixd tag) (Ok (task_count l)) (unheard tag) Small (λ _. fits 0 _ (lit≤ tt) (omega (arith, v.tasks_few))) (λ _. unheard_small tag)))
 
-step_small : (e : Entries) (f : ℕ) → e.steps ≤ most_steps → Small (add_step e f)
+step_small : (e : Entries) (f : ℕ) → step_count e ≤ most_steps → Small (add_step e f)
 step_small e f few =
-    cond_both (ltb e.steps most_steps) _ (Err NoRoom) Small
-    (λ _. cond_both (leb f 1) (Ok e.steps) (Err (FieldOutside 1)) Small (λ _. fits 0 _ (lit≤ tt) (omega arith)) (λ _. fits 3 1 (lit≤ tt) (lit≤ tt)))
+    cond_both (ltb (step_count e) most_steps) _ (Err NoRoom) Small
+    (λ _. cond_both (leb f 1) (Ok (step_count e)) (Err (FieldOutside 1)) Small (λ _. fits 0 _ (lit≤ tt) (omega arith)) (λ _. fits 3 1 (lit≤ tt) (lit≤ tt)))
     (λ _. fits 4 0 (lit≤ tt) (lit≤ tt))
 
 input_small : (e : Entries) → e.inputs ≤ most_inputs → Small (add_input e)
@@ -96,9 +96,9 @@ input_small e few = cond_both (ltb e.inputs most_inputs) (Ok e.inputs) (Err NoRo
 
 lead_small : (e : Entries) (s i n : ℕ) → Small (set_lead e s i n)
 lead_small e s i n =
-    cond_both (ltb s e.steps) _ (Err (FieldOutside 1)) Small
+    cond_both (ltb s (step_count e)) _ (Err (FieldOutside 1)) Small
     (λ _. cond_both (ltb i e.inputs) _ (Err (FieldOutside 2)) Small
-    (λ _. cond_both (ltb n e.steps) (Ok 0) (Err (FieldOutside 3)) Small (λ _. fits 0 0 (lit≤ tt) (lit≤ tt)) (λ _. fits 3 3 (lit≤ tt) (lit≤ tt)))
+    (λ _. cond_both (ltb n (step_count e)) (Ok 0) (Err (FieldOutside 3)) Small (λ _. fits 0 0 (lit≤ tt) (lit≤ tt)) (λ _. fits 3 3 (lit≤ tt) (lit≤ tt)))
     (λ _. fits 3 2 (lit≤ tt) (lit≤ tt)))
     (λ _. fits 3 1 (lit≤ tt) (lit≤ tt))
 
@@ -107,4 +107,4 @@ chart_reply_small e tag ns v =
     cond_both (is Step tag) (add_step e (nth ns 0)) _ Small (λ _. step_small e (nth ns 0) v.few_steps)
     (λ _. cond_both (is Inpt tag) (add_input e) _ Small (λ _. input_small e v.few_inputs)
     (λ _. cond_both (is Lead tag) (set_lead e (nth ns 0) (nth ns 1) (nth ns 2)) _ Small (λ _. lead_small e (nth ns 0) (nth ns 1) (nth ns 2))
-    (λ _. cond_both (is Fixd tag) (Ok e.steps) (unheard tag) Small (λ _. fits 0 _ (lit≤ tt) (omega (arith, v.few_steps))) (λ _. unheard_small tag))))
+    (λ _. cond_both (is Fixd tag) (Ok (step_count e)) (unheard tag) Small (λ _. fits 0 _ (lit≤ tt) (omega (arith, v.few_steps))) (λ _. unheard_small tag))))

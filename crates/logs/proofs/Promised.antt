@@ -12,11 +12,11 @@ use Rattle.sessions.proofs.Pasts.{reached_open, reached_step}
 use Rattle.sessions.proofs.Promises.{promise}
 use Rattle.sessions.proofs.Tables.{good_reached}
 use Rattle.charts.specs.Charts.{chart_meaning}
-use Rattle.charts.specs.Entries.{with_step, with_input, with_lead}
+use Rattle.charts.specs.Entries.{with_step, with_input, with_lead, Valid as ChartValid}
 use Rattle.charts.specs.declared.entries.Entries.{Entries}
 use Rattle.charts.specs.Numbered.{chart_numbered}
+use Rattle.charts.proofs.Valid.{valid_step, valid_lead}
 use Rattle.policies.specs.Orders.{site}
-use Rattle.plants.specs.Limits.{most_tasks}
 use Rattle.plants.specs.Layouts.{valid, entered as task_entered, with_task}
 use Rattle.plants.specs.Entries.{resource_comes_to, after_resource, task_comes_to, after_task}
 use Rattle.plants.specs.Rules.{Bad, Tick}
@@ -45,16 +45,12 @@ use Rattle.logs.proofs.Ahead.{few_heard}
 use Rattle.logs.proofs.Served.{reply_small}
 use Rattle.logs.proofs.Noted.{small_pair}
 use Rattle.logs.proofs.Entries.{opening_small, plant_reply_small, chart_reply_small, few_choices}
-use Rattle.logs.proofs.ChartsKept.{Kept, kept_begun, kept_step, kept_input, kept_lead, chart_lawful}
+use Rattle.logs.proofs.ChartsKept.{valid_begun, valid_input, chart_lawful}
 use Rattle.logs.proofs.TurnsTaken.{on_plant, on_chart}
 use Rattle.logs.proofs.Alike.{both_conds, alike_empty, served_alike}
 use Rattle.logs.proofs.RunsJudged.{same_tag, out_of_turn}
 
 -- what every turn keeps: drafts are valid, and a session's table has a past and as many cells as it has places
-
-record LayoutKept (l : Layout) : Type 0 where
-  good : valid l ≡ true
-  sized : length l.tasks ≡ most_tasks
 
 record TableKept {S : Type 0} (m : Meaning S) (t : Listing S) : Type 0 where
   reached : Reached m t
@@ -62,10 +58,10 @@ record TableKept {S : Type 0} (m : Meaning S) (t : Listing S) : Type 0 where
 
 abbrev Sound : Turn → Type 0
 Sound Opening = Unit {0}
-Sound (PlantDraft x) = LayoutKept x
-Sound (ChartDraft x) = Kept x
-Sound (OnPlant x t) = LayoutKept x × TableKept (site_plant x) t
-Sound (OnChart x t) = Kept x × TableKept (chart_meaning x) t
+Sound (PlantDraft x) = valid x ≡ true
+Sound (ChartDraft x) = ChartValid x
+Sound (OnPlant x t) = (valid x ≡ true) × TableKept (site_plant x) t
+Sound (OnChart x t) = ChartValid x × TableKept (chart_meaning x) t
 
 -- the cells are as many as a session has places
 record Sized (cells : Memory) : Type 0 where
@@ -98,33 +94,33 @@ module _ {S : Type 0} (v : Logged S) (t : Listing S) (k : TableKept v.means t) w
       (λ _. cond_both (is Setl tag) (settled v.means t (nth ns 0)) t (TableKept v.means) (λ _. settled_kept (nth ns 0)) (λ _. k))
 
 -- entries of a plant
-resource_kept : (l : Layout) (a b : ℕ) → LayoutKept l → LayoutKept (after_resource l a b)
+resource_kept : (l : Layout) (a b : ℕ) → valid l ≡ true → valid (after_resource l a b) ≡ true
 resource_kept l a b k =
-    cond_both (accepts (resource_comes_to l a b)) _ l LayoutKept
-    (λ h. let v = valid_parts l k.good in record { good = valid_with_resource l _ v (resource_room l a b v h); sized = k.sized })
+    cond_both (accepts (resource_comes_to l a b)) _ l (λ x. valid x ≡ true)
+    (λ h. let v = valid_parts l k in valid_with_resource l _ v (resource_room l a b v h))
     (λ _. k)
 
-task_kept : (l : Layout) (e : TaskEntry) → LayoutKept l → LayoutKept (after_task l e)
+task_kept : (l : Layout) (e : TaskEntry) → valid l ≡ true → valid (after_task l e) ≡ true
 task_kept l e k =
-    cond_both (accepts (task_comes_to l e)) (with_task l (task_entered e)) l LayoutKept
-    (λ h. record { good = valid_with_task l e k.sized (valid_parts l k.good) (admitted l e h); sized = simp length-set k.sized })
+    cond_both (accepts (task_comes_to l e)) (with_task l (task_entered e)) l (λ x. valid x ≡ true)
+    (λ h. valid_with_task l e (valid_parts l k) (admitted l e h))
     (λ _. k)
 
-plant_kept : (l : Layout) (tag : Tag) (ns : List ℕ) → LayoutKept l → LayoutKept (plant_after l tag ns)
+plant_kept : (l : Layout) (tag : Tag) (ns : List ℕ) → valid l ≡ true → valid (plant_after l tag ns) ≡ true
 plant_kept l tag ns k =
-    cond_both (is Rsrc tag) (after_resource l (nth ns 0) (nth ns 1)) _ LayoutKept (λ _. resource_kept l (nth ns 0) (nth ns 1) k)
-    (λ _. cond_both (is Task tag) (after_task l (task_of ns)) l LayoutKept (λ _. task_kept l (task_of ns) k) (λ _. k))
+    cond_both (is Rsrc tag) (after_resource l (nth ns 0) (nth ns 1)) _ (λ x. valid x ≡ true) (λ _. resource_kept l (nth ns 0) (nth ns 1) k)
+    (λ _. cond_both (is Task tag) (after_task l (task_of ns)) l (λ x. valid x ≡ true) (λ _. task_kept l (task_of ns) k) (λ _. k))
 
-chart_kept : (e : Entries) (tag : Tag) (ns : List ℕ) → Kept e → Kept (chart_after e tag ns)
+chart_kept : (e : Entries) (tag : Tag) (ns : List ℕ) → ChartValid e → ChartValid (chart_after e tag ns)
 chart_kept e tag ns k =
-    cond_both (is Step tag) (with_step e (nth ns 0)) _ Kept (λ _. kept_step e (nth ns 0) k)
-    (λ _. cond_both (is Inpt tag) (with_input e) _ Kept (λ _. kept_input e k)
-    (λ _. cond_both (is Lead tag) (with_lead e (nth ns 0) (nth ns 1) (nth ns 2)) e Kept (λ _. kept_lead e (nth ns 0) (nth ns 1) (nth ns 2) k) (λ _. k)))
+    cond_both (is Step tag) (with_step e (nth ns 0)) _ ChartValid (λ _. valid_step e (nth ns 0) k)
+    (λ _. cond_both (is Inpt tag) (with_input e) _ ChartValid (λ _. valid_input e k)
+    (λ _. cond_both (is Lead tag) (with_lead e (nth ns 0) (nth ns 1) (nth ns 2)) e ChartValid (λ _. valid_lead e (nth ns 0) (nth ns 1) (nth ns 2) k) (λ _. k)))
 
 begins_sound : (k : Option Kind) → Sound (begins k)
 begins_sound None = tt
-begins_sound (Some Plant) = record { good = refl; sized = refl }
-begins_sound (Some Chart) = kept_begun
+begins_sound (Some Plant) = refl
+begins_sound (Some Chart) = valid_begun
 
 entered_sound : (turn : Turn) (l : Said) → Sound turn → Sound (entered turn l)
 entered_sound Opening l s = begins_sound (kind l.0)
@@ -146,16 +142,16 @@ goes_sound cells z turn l s = cond_both (is Fixd l.0) (fixed cells turn) (entere
 fresh_sized : Sized fresh
 fresh_sized = record { plants = refl; charts = refl }
 
-plant_lawful : (x : Layout) → LayoutKept x → Lawful (site_plant x)
-plant_lawful x k = plant_laws site x (valid_parts x k.good)
+plant_lawful : (x : Layout) → valid x ≡ true → Lawful (site_plant x)
+plant_lawful x k = plant_laws site x (valid_parts x k)
 
 -- an accepted verdict is true
 
 -- chains of ticks are runs
-safe_ticks : (x : Layout) → LayoutKept x → Safe (site_plant x) → SafeTicks x
+safe_ticks : (x : Layout) → valid x ≡ true → Safe (site_plant x) → SafeTicks x
 safe_ticks x k safe =
     let m = site_plant x in
-    let good = valid_parts x k.good in
+    let good = valid_parts x k in
     let runs = runs_chain site x good in
     record {
       never_late = λ cs xs chain late.
@@ -189,7 +185,7 @@ closed_turn (ChartDraft x) l n s e = absurd (out_of_turn (λ u. answer_of (chart
 closed_turn (OnPlant x t) l n s e =
     let safe = closed_in (logged_plant x) (plant_lawful x s.0) t s.1.reached l.0 l.1 n e in
     (safe, safe_ticks x s.0 safe)
-closed_turn (OnChart x t) l n s e = (closed_in (logged_chart x) (chart_lawful x s.0.valid) t s.1.reached l.0 l.1 n e, tt)
+closed_turn (OnChart x t) l n s e = (closed_in (logged_chart x) (chart_lawful x s.0) t s.1.reached l.0 l.1 n e, tt)
 
 closed_at : (ls : List Said) (turn : Turn) → Sound turn → (k n : ℕ) → get_or (answers fresh turn ls) k no_line ≡ (Verd, 0 ∷ n ∷ []) → SafeTurn (turn_after fresh turn (take k ls)) × SafeTicksTurn (turn_after fresh turn (take k ls))
 closed_at [] turn s k n e = absurd (omega (arith, same_tag no_line (Verd, 0 ∷ n ∷ []) e))
@@ -221,10 +217,10 @@ shown_small v law numbered few t k tag ns h =
 
 says_small : (turn : Turn) (l : Said) → Sound turn → length l.1 ≤ most → small (says turn l).1 ≡ true
 says_small Opening l s h = narrow l.0 _ (opening_small (kind l.0) l.0)
-says_small (PlantDraft x) l s h = narrow l.0 _ (plant_reply_small x l.0 l.1 (valid_parts x s.good))
-says_small (ChartDraft x) l s h = narrow l.0 _ (chart_reply_small x l.0 l.1 s.valid)
-says_small (OnPlant x t) l s h = shown_small (logged_plant x) (plant_lawful x s.0) (plant_numbered site x (valid_parts x s.0.good)) (few_choices x s.0.good) t s.1 l.0 l.1 h
-says_small (OnChart x t) l s h = shown_small (logged_chart x) (chart_lawful x s.0.valid) (chart_numbered x s.0.valid.few_steps) (omega (arith, s.0.valid.few_inputs)) t s.1 l.0 l.1 h
+says_small (PlantDraft x) l s h = narrow l.0 _ (plant_reply_small x l.0 l.1 (valid_parts x s))
+says_small (ChartDraft x) l s h = narrow l.0 _ (chart_reply_small x l.0 l.1 s)
+says_small (OnPlant x t) l s h = shown_small (logged_plant x) (plant_lawful x s.0) (plant_numbered site x (valid_parts x s.0)) (few_choices x s.0) t s.1 l.0 l.1 h
+says_small (OnChart x t) l s h = shown_small (logged_chart x) (chart_lawful x s.0) (chart_numbered x s.0.few_steps) (omega (arith, s.0.few_inputs)) t s.1 l.0 l.1 h
 
 abbrev AllFew : List Said → Type 0
 AllFew [] = Unit {0}

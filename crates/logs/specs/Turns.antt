@@ -4,13 +4,13 @@ use Rattle.systems.specs.Systems.{Meaning, BadRun, Safe}
 use Rattle.systems.specs.Outcomes.{Outcome, answer_of}
 use Rattle.sessions.specs.declared.cell.Cell.{Cell}
 use Rattle.sessions.specs.Tables.{Listing, empty}
-use Rattle.charts.specs.Entries.{begun, add_step, with_step, add_input, with_input, set_lead, with_lead}
+use Rattle.charts.specs.Entries.{begun, step_count, add_step, with_step, add_input, with_input, set_lead, with_lead}
 use Rattle.charts.specs.Charts.{chart_meaning}
 use Rattle.charts.specs.Numbers.{step_numbers, step_of}
 use Rattle.charts.specs.declared.entries.Entries.{Entries}
 use Rattle.policies.specs.Orders.{site}
 use Rattle.plants.specs.Chains.{Chains, end_of}
-use Rattle.plants.specs.Layouts.{nothing}
+use Rattle.plants.specs.Layouts.{nothing, task_count}
 use Rattle.plants.specs.Entries.{resource_comes_to, after_resource, task_comes_to, after_task}
 use Rattle.plants.specs.Meanings.{plant_meaning}
 use Rattle.plants.specs.Numbers.{state_numbers, state_of}
@@ -44,7 +44,7 @@ abbrev pub site_plant : Layout → Meaning PlantState
 site_plant l = plant_meaning site l
 
 abbrev pub logged_plant : Layout → Logged PlantState
-logged_plant l = record { means = site_plant l; numbers = λ s. state_numbers l.count s.records; restored = state_of l.count }
+logged_plant l = record { means = site_plant l; numbers = λ s. state_numbers (task_count l) s.records; restored = state_of (task_count l) }
 
 abbrev pub logged_chart : Entries → Logged ℕ
 logged_chart e = record { means = chart_meaning e; numbers = step_numbers; restored = step_of }
@@ -68,7 +68,7 @@ chart_reply e t ns =
     cond (is Step t) (add_step e (nth ns 0))
     (cond (is Inpt t) (add_input e)
     (cond (is Lead t) (set_lead e (nth ns 0) (nth ns 1) (nth ns 2))
-    (cond (is Fixd t) (Ok e.steps) (unheard t))))
+    (cond (is Fixd t) (Ok (step_count e)) (unheard t))))
 
 abbrev pub chart_after : Entries → Tag → List ℕ → Entries
 chart_after e t ns =
@@ -92,7 +92,7 @@ task_of ns = record {
 abbrev pub plant_reply : Layout → Tag → List ℕ → Outcome
 plant_reply l t ns =
     cond (is Rsrc t) (resource_comes_to l (nth ns 0) (nth ns 1))
-    (cond (is Task t) (task_comes_to l (task_of ns)) (cond (is Fixd t) (Ok l.count) (unheard t)))
+    (cond (is Task t) (task_comes_to l (task_of ns)) (cond (is Fixd t) (Ok (task_count l)) (unheard t)))
 
 abbrev pub plant_after : Layout → Tag → List ℕ → Layout
 plant_after l t ns = cond (is Rsrc t) (after_resource l (nth ns 0) (nth ns 1)) (cond (is Task t) (after_task l (task_of ns)) l)

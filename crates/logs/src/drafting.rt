@@ -47,6 +47,7 @@ impl Drafting for DraftChart {
 
     fn enter(&mut self, line: &Line) -> Answer {
         let numbers = line.numbers();
+        // One match says what each tag asks for; a table of functions is no plainer.
         match line.tag() {
             Tag::Step => self.add_step(number_at(numbers, 0)),
             Tag::Inpt => self.add_input(),
@@ -90,6 +91,7 @@ impl Drafting for DraftPlant {
 
     fn enter(&mut self, line: &Line) -> Answer {
         let numbers = line.numbers();
+        // One match says what each tag asks for; a table of functions is no plainer.
         match line.tag() {
             Tag::Rsrc => self.add_resource(number_at(numbers, 0), number_at(numbers, 1)),
             Tag::Task => self.add_task(task_in(numbers)),

@@ -24,10 +24,13 @@ const PLACES: usize = 256;
 pub const MOST_BYTES: usize = 60000;
 
 // Answers the lines of a draft, and then of a session on what it is fixed as.
-fn draft_log<D: Drafting>(heap: Global, progress: &mut Progress, draft: D) -> Result<(), AllocError>
+fn draft_log<D: Drafting>(
+    heap: Global,
+    progress: &mut Progress,
+    mut draft: D,
+) -> Result<(), AllocError>
     ensures { OnOk result (progress.new.log.items ≡ progress.old.log.items ++ spelled (answers fresh (D.turn draft) (lines_ahead progress.old.reader))) }
 {
-    let mut draft = draft;
     if !draft_lines(progress, &mut draft)? {
         return Ok(());
     }
@@ -66,7 +69,7 @@ fn whole(heap: Global, input: &[u8]) -> Result<Vec<u8>, AllocError>
 fn read_part(input: &[u8]) -> &[u8]
     ensures { result.now ≡ take most_bytes input.now }
 {
-    &input[0..input.len().min(MOST_BYTES)]
+    &input[..input.len().min(MOST_BYTES)]
 }
 
 // Turns an input into its log: the spelling of one answer for each of its lines. Where an answer accepts a

@@ -17,7 +17,7 @@ pub(crate) enum Kind {
     Chart,
 }
 
-// What a tag begins the draft of.
+// What a tag begins the draft of; an `Option`, since most tags begin none.
 fn kind_of(tag: Tag) -> Option<Kind>
     ensures { result ≡ kind_of_tag tag }
 {

@@ -13,12 +13,14 @@ use lines::write::write;
 use std::alloc::{AllocError, Global};
 use systems::outcome::Answer;
 
+// The reader of the input, and the log of what it has read.
 #[derive(Drop)]
 pub(crate) struct Progress<'i> {
     pub(crate) reader: LineReader<'i>,
     pub(crate) log: Vec<u8>,
 }
 
+// That a call keeps the reader or the log is a clause of each, as it relates two moments.
 impl<'i> Progress<'i> {
     // No line is read yet.
     pub(crate) fn new(heap: Global, input: &'i [u8]) -> Progress<'i>
@@ -51,12 +53,13 @@ impl<'i> Progress<'i> {
         ensures reader { self.new.reader ≡ self.old.reader }
     {
         let (number, value) = answer;
+        // a buffer and a length: writing fills lent memory and answers how much
         let mut buffer = [0; LONGEST];
         let (_, count) = write(tag, &[number, value as u32], &mut buffer);
-        self.append(&buffer, count)
+        self.append(&buffer[..count])
     }
 
-    // Adds the line of a state that fits.
+    // Adds the line of a state that fits. Apart from `note`, since here the system writes the line.
     pub(crate) fn note_state<Y: Loggable>(
         &mut self,
         system: &Y,
@@ -66,18 +69,18 @@ impl<'i> Progress<'i> {
         ensures log { OnOk result (self.new.log.items ≡ self.old.log.items ++ line_spelled (Offr, Y.numbers system.now state.now)) }
         ensures reader { self.new.reader ≡ self.old.reader }
     {
+        // a buffer and a length: writing fills lent memory and answers how much
         let mut buffer = [0; LONGEST];
         let (_, count) = system.write(state, &mut buffer);
-        self.append(&buffer, count)
+        self.append(&buffer[..count])
     }
 
-    // Adds the first bytes of a buffer.
-    fn append(&mut self, buffer: &[u8], count: usize) -> Result<(), AllocError>
-        requires { count ≤ length buffer.now }
-        ensures log { OnOk result (self.new.log.items ≡ self.old.log.items ++ take count buffer.now) }
+    // Adds the bytes of a line.
+    fn append(&mut self, line: &[u8]) -> Result<(), AllocError>
+        ensures log { OnOk result (self.new.log.items ≡ self.old.log.items ++ line.now) }
         ensures reader { self.new.reader ≡ self.old.reader }
     {
-        self.log.extend_from_slice(&buffer[0..count])?;
+        self.log.extend_from_slice(line)?;
         Ok(())
     }
 }

@@ -27,6 +27,7 @@ struct Serving<'c, Y: Loggable> {
     ghost same: { system_of Y.meaning session ≡ Y.meaning system.now },
 }
 
+// That a call keeps the system is a clause of each, as it relates two moments.
 impl<Y: Loggable> Serving<'_, Y> {
     // Offers the state that the numbers are; numbers that are no state do not fit.
     fn offer(&mut self, numbers: &[u32]) -> Answer
@@ -47,6 +48,7 @@ impl<Y: Loggable> Serving<'_, Y> {
         ensures after { table_of self.new.session ≡ goes_in (logged Y.meaning Y.numbers Y.restored self.old.system.now) (table_of self.old.session) line.now.0 line.now.1 }
     {
         let numbers = line.numbers();
+        // One match says what each tag asks for; a table of functions is no plainer.
         match line.tag() {
             Tag::Offr => self.offer(numbers),
             Tag::Setl => self.session.settle(number_at(numbers, 0) as usize),
@@ -65,8 +67,8 @@ impl<Y: Loggable> Serving<'_, Y> {
         if line.tag() != Tag::Show {
             return None;
         }
-        let ((refusal, _), state) = self.session.show(number_at(line.numbers(), 0) as usize);
-        if refusal == 0 { Some(state) } else { None }
+        let ((number, _), state) = self.session.show(number_at(line.numbers(), 0) as usize);
+        (number == 0).then_some(state)
     }
 
     // Answers one line.

@@ -3,7 +3,7 @@ use Rattle.std.proofs.Common.{◌≡◌, ℕ, ◌+◌, ◌<◌, Bool, true, fals
 use Rattle.std.proofs.lemmas.Bool.{and_from, lt-ltb, ltb-true, both_ways, not_from_false, cond-true, cond-false, cond_both}
 use Rattle.systems.proofs.Lowest.{refuted}
 use Rattle.plants.specs.Bits.{bit}
-use Rattle.plants.specs.Layouts.{task_at}
+use Rattle.plants.specs.Layouts.{task_at, task_count}
 use Rattle.plants.specs.Records.{at, released, readied, grown_by, finished}
 use Rattle.plants.specs.Tick.{Order, state_bad, release_in, release_obeys, finish_in, finish_obeys, comes_ready, task_runs, claiming, after_releases, after_readying, after_growth, after_finishes, ticked, choice_legal, next_records}
 use Rattle.plants.specs.Rules.{record_at, Releases, Readies, Runs, Grows, Finishes, Tick, claiming_state}
@@ -47,7 +47,7 @@ module _ (order : Order) (l : Layout) (c : ℕ) (s : PlantState) (v : Valid l) (
   next_is = cond-true (choice_legal order l c s.records) (ticked order l c s.records) s.records h
 
   -- the release bit of task k, at the value that it has
-  release_bit : (k : ℕ) → k < l.count → (b : Bool) → bit c k ≡ b → release_in (task_at l k) (record_at s k).phase (record_at s k).since b ≡ true
+  release_bit : (k : ℕ) → k < task_count l → (b : Bool) → bit c k ≡ b → release_in (task_at l k) (record_at s k).phase (record_at s k).since b ≡ true
   unfolding release_obeys
   release_bit k lt b e = ap (release_in (task_at l k) (record_at s k).phase (record_at s k).since) (sym e) ∙ ok.releases k lt
 
@@ -86,11 +86,11 @@ module _ (order : Order) (l : Layout) (c : ℕ) (s : PlantState) (v : Valid l) (
         others = record { long = m.long; stay = m.others };
       }
 
-  run_is : (k : ℕ) → k < l.count → (record_at grown k).run ≡ (grown_by (task_runs order l claims k) (at claims k)).run
+  run_is : (k : ℕ) → k < task_count l → (record_at grown k).run ≡ (grown_by (task_runs order l claims k) (at claims k)).run
   unfolding grown
   run_is k lt = ap (λ (r : Record). r.run) ((grown_made l v claims order).entered k lt)
 
-  finish_bit : (k : ℕ) → k < l.count → (b : Bool) → bit c (l.count + k) ≡ b
+  finish_bit : (k : ℕ) → k < task_count l → (b : Bool) → bit c (task_count l + k) ≡ b
       → finish_in (task_at l k) (task_runs order l claims k) (record_at grown k).run b ≡ true
   unfolding finish_obeys
   finish_bit k lt b e =
@@ -135,7 +135,7 @@ module _ (order : Order) (l : Layout) (c : ℕ) (s s' : PlantState) (v : Valid l
   held_is : t.held.records ≡ after_releases l c s.records
   held_is =
       let r = t.rule_1 in
-      made_each (λ i r. cond (bit c i) released r) s.records l.count t.held.records (record {
+      made_each (λ i r. cond (bit c i) released r) s.records (task_count l) t.held.records (record {
         long = r.others.long;
         entered = λ k lt.
             cond_both (bit c k) _ _ (λ x. record_at t.held k ≡ x) (λ b. (r.releases k lt b).1) (λ b. (r.leaves k lt b).1);
@@ -145,19 +145,19 @@ module _ (order : Order) (l : Layout) (c : ℕ) (s s' : PlantState) (v : Valid l
   ready_is : t.ready.records ≡ claiming l c s.records
   ready_is =
       let r = t.rule_2 in
-      made_each (λ i r. cond (comes_ready l t.held.records i) (readied r) r) t.held.records l.count t.ready.records (record {
+      made_each (λ i r. cond (comes_ready l t.held.records i) (readied r) r) t.held.records (task_count l) t.ready.records (record {
         long = r.others.long;
         entered = λ k lt. by_flag (comes_ready l t.held.records k) (comes_decides l t.held k) _ _ _ (r.readies k lt) (r.leaves k lt);
         others = r.others.stay;
       })
       ∙ ap (after_readying l) held_is
 
-  grown_at : (k : ℕ) → k < l.count → record_at t.grown k ≡ grown_by (task_runs order l t.ready.records k) (record_at t.ready k)
+  grown_at : (k : ℕ) → k < task_count l → record_at t.grown k ≡ grown_by (task_runs order l t.ready.records k) (record_at t.ready k)
   grown_at k lt = grown_is _ _ (runs_decides order l t.ready k) _ _ (t.rule_4.grows k lt)
 
   grown_all : t.grown.records ≡ after_growth order l (claiming l c s.records)
   grown_all =
-      made_each (λ i r. grown_by (task_runs order l t.ready.records i) r) t.ready.records l.count t.grown.records (record {
+      made_each (λ i r. grown_by (task_runs order l t.ready.records i) r) t.ready.records (task_count l) t.grown.records (record {
         long = t.rule_4.others.long;
         entered = grown_at;
         others = t.rule_4.others.stay;
@@ -167,29 +167,29 @@ module _ (order : Order) (l : Layout) (c : ℕ) (s s' : PlantState) (v : Valid l
   ticked_is : s'.records ≡ ticked order l c s.records
   ticked_is =
       let r = t.rule_5 in
-      made_each (λ i r. cond (bit c (l.count + i)) (finished r) r) t.grown.records l.count s'.records (record {
+      made_each (λ i r. cond (bit c (task_count l + i)) (finished r) r) t.grown.records (task_count l) s'.records (record {
         long = r.others.long;
         entered = λ k lt.
-            cond_both (bit c (l.count + k)) _ _ (λ x. record_at s' k ≡ x) (λ b. (r.finishes k lt b).2) (λ b. (r.leaves k lt b).1);
+            cond_both (bit c (task_count l + k)) _ _ (λ x. record_at s' k ≡ x) (λ b. (r.finishes k lt b).2) (λ b. (r.leaves k lt b).1);
         others = r.others.stay;
       })
       ∙ ap (after_finishes l c) grown_all
 
-  release_one : (k : ℕ) → k < l.count → release_obeys l c s.records k ≡ true
+  release_one : (k : ℕ) → k < task_count l → release_obeys l c s.records k ≡ true
   unfolding release_obeys
   release_one k lt =
       by_bit (bit c k) (λ b. release_in (task_at l k) (record_at s k).phase (record_at s k).since b ≡ true)
       (λ b. (may_decides (task_at l k) (record_at s k)).1 (t.rule_1.releases k lt b).0)
       (λ b. (must_decides (task_at l k) (record_at s k)).1 (t.rule_1.leaves k lt b).0)
 
-  finish_one : (k : ℕ) → k < l.count → finish_obeys order l c t.ready.records k ≡ true
+  finish_one : (k : ℕ) → k < task_count l → finish_obeys order l c t.ready.records k ≡ true
   unfolding finish_obeys
   finish_one k lt =
       let runs = task_runs order l t.ready.records k in
       let run = (record_at t.grown k).run in
       let d = runs_decides order l t.ready k in
-      ap (λ (r : Record). finish_in (task_at l k) runs r.run (bit c (l.count + k))) (sym (grown_at k lt))
-      ∙ by_bit (bit c (l.count + k)) (λ b. finish_in (task_at l k) runs run b ≡ true)
+      ap (λ (r : Record). finish_in (task_at l k) runs r.run (bit c (task_count l + k))) (sym (grown_at k lt))
+      ∙ by_bit (bit c (task_count l + k)) (λ b. finish_in (task_at l k) runs run b ≡ true)
       (λ b. let f = t.rule_5.finishes k lt b in (finish_decides (task_at l k) (Runs order l t.ready k) runs run d).1 (f.0, f.1))
       (λ b. (worn_decides (task_at l k) (Runs order l t.ready k) runs run d).1 (t.rule_5.leaves k lt b).0)
 
@@ -200,8 +200,8 @@ module _ (order : Order) (l : Layout) (c : ℕ) (s s' : PlantState) (v : Valid l
       (and_from _ _
       (and_from _ _ ((fits_decides l s v.tasks_few).1 t.fits) (not_from_false _ (refuted _ (λ h. t.good ((bad_decides l s).0 h)))))
       (lt-ltb _ _ t.below))
-      (all_from (release_obeys l c s.records) l.count release_one))
-      (all_from (finish_obeys order l c (claiming l c s.records)) l.count
+      (all_from (release_obeys l c s.records) (task_count l) release_one))
+      (all_from (finish_obeys order l c (claiming l c s.records)) (task_count l)
       (λ k lt. ap (λ (xs : List Record). finish_obeys order l c xs k) (sym ready_is) ∙ finish_one k lt))
 
   pub tick_next : s' ≡ (plant_meaning order l).next s c

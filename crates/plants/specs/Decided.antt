@@ -6,7 +6,7 @@ use Rattle.std.proofs.lemmas.Bool.{and_parts, and_from, or_left, or_right, eqb-t
 use Rattle.systems.proofs.Lowest.{refuted}
 use Rattle.plants.specs.Limits.{most_tasks}
 use Rattle.plants.specs.Bits.{bit}
-use Rattle.plants.specs.Layouts.{task_at}
+use Rattle.plants.specs.Layouts.{task_at, task_count}
 use Rattle.plants.specs.Records.{rec, at, blank, is_before, is_done, is_held, is_ready, grown_by}
 use Rattle.plants.specs.Tick.{Order, fits_in, fits_at, is_blank, state_fits, late_at, state_bad, release_in, finish_in, met_at, comes_ready, rivals, goes_before, ahead_of, task_runs}
 use Rattle.plants.specs.Rules.{record_at, FitsTask, Fits, Late, Bad, MayRelease, MustRelease, ComesReady, Runs, Grown}
@@ -85,7 +85,7 @@ blank_parts Done since run waited h = absurd (false≢true h)
 blank_parts Held since run waited h = absurd (false≢true h)
 blank_parts Ready since run waited h = absurd (false≢true h)
 
-pub fits_decides : (l : Layout) (s : PlantState) → l.count ≤ most_tasks → Decides (state_fits l s.records) (Fits l s)
+pub fits_decides : (l : Layout) (s : PlantState) → task_count l ≤ most_tasks → Decides (state_fits l s.records) (Fits l s)
 unfolding fits_at
 fits_decides l s few =
     let rs = s.records in
@@ -94,19 +94,19 @@ fits_decides l s few =
         long = (fits_parts l rs h).long;
         entered = λ k lt.
             let r = at rs k in
-            fits_rules (task_at l k) r.phase r.since r.run r.waited (sym (cond-true _ _ _ (lt-ltb k l.count lt)) ∙ test k (omega arith) h);
+            fits_rules (task_at l k) r.phase r.since r.run r.waited (sym (cond-true _ _ _ (lt-ltb k (task_count l) lt)) ∙ test k (omega arith) h);
         others = λ k lt le.
-            let r = at rs k in blank_parts r.phase r.since r.run r.waited (sym (cond-false _ _ _ (le-ltb k l.count le)) ∙ test k lt h);
+            let r = at rs k in blank_parts r.phase r.since r.run r.waited (sym (cond-false _ _ _ (le-ltb k (task_count l) le)) ∙ test k lt h);
       }),
       λ f.
           fits_from l rs (record {
             long = f.long;
             each_fits = λ k lt.
                 ⊎_elim
-                (λ (e : k < l.count).
-                let r = at rs k in cond-true _ _ _ (lt-ltb k l.count e) ∙ rules_fit (task_at l k) r.phase r.since r.run r.waited (f.entered k e))
-                (λ (e : l.count ≤ k). cond-false _ _ _ (le-ltb k l.count e) ∙ ap is_blank (f.others k lt e))
-                (cases_lt k l.count);
+                (λ (e : k < task_count l).
+                let r = at rs k in cond-true _ _ _ (lt-ltb k (task_count l) e) ∙ rules_fit (task_at l k) r.phase r.since r.run r.waited (f.entered k e))
+                (λ (e : task_count l ≤ k). cond-false _ _ _ (le-ltb k (task_count l) e) ∙ ap is_blank (f.others k lt e))
+                (cases_lt k (task_count l));
           }),
     )
 
@@ -117,7 +117,7 @@ bad_decides l s =
     (λ k.
     let r = record_at s k in
     Decides-and _ _ (Decides-or _ _ (decides_held r.phase) (decides_ready r.phase)) (Decides-eqb r.since (task_at l k).deadline))
-    l.count
+    (task_count l)
 
 -- Rule 1
 
@@ -184,7 +184,7 @@ pub runs_decides : (order : Order) (l : Layout) (s : PlantState) (k : ℕ) → D
 unfolding task_runs
 runs_decides order l s k =
     Decides-and _ _ (decides_ready (record_at s k).phase)
-    (all_decides (ahead_of order l s.records k) (Ahead order l s.records k) (ahead_decides order l s.records k) l.count)
+    (all_decides (ahead_of order l s.records k) (Ahead order l s.records k) (ahead_decides order l s.records k) (task_count l))
 
 -- Rule 4
 

@@ -13,7 +13,7 @@ use Rattle.systems.specs.declared.outcome.Refusal.TheVariants.{FieldOutside, NoR
 use Rattle.systems.proofs.Lowest.{refuted}
 use Rattle.plants.specs.Limits.{most_ticks, most_resources, most_tasks}
 use Rattle.plants.specs.Bits.{bit}
-use Rattle.plants.specs.Layouts.{is_within, unlike}
+use Rattle.plants.specs.Layouts.{is_within, unlike, resource_count, task_count}
 use Rattle.plants.specs.Entries.{resource_comes_to, task_comes_to, outside_field, if_inside, if_alike}
 use Rattle.plants.specs.Entering.{EntersResource, OneGap, EntersTask, EnteredExactly}
 use Rattle.plants.specs.declared.layout.TaskEntry.{TaskEntry}
@@ -64,16 +64,16 @@ exactly Enters number o answer e f g = record {
 -- A resource
 
 module _ (l : Layout) (policy preempt : ℕ) where
-  pub resource_enters : l.resource_count ≤ most_resources → accepts (resource_comes_to l policy preempt) ≡ true → EntersResource l policy preempt
+  pub resource_enters : resource_count l ≤ most_resources → accepts (resource_comes_to l policy preempt) ≡ true → EntersResource l policy preempt
   resource_enters few h =
-      let room = passed (l.resource_count == most_resources) (Err NoRoom) _ refl h in
+      let room = passed (resource_count l == most_resources) (Err NoRoom) _ refl h in
       let known = passed (nat_lt earliest_deadline policy) (Err (FieldOutside 1)) _ refl room.1 in
       let flag = passed (nat_lt preemptive preempt) (Err (FieldOutside 2)) _ refl known.1 in
       record { room = omega (arith, eqb-false _ _ room.0); policy_known = ltb-false _ _ known.0; preempt_known = ltb-false _ _ flag.0 }
 
-  pub enters_resource : EntersResource l policy preempt → resource_comes_to l policy preempt ≡ Ok l.resource_count
+  pub enters_resource : EntersResource l policy preempt → resource_comes_to l policy preempt ≡ Ok (resource_count l)
   enters_resource h =
-      cond-false _ _ _ (ne_eqb _ _ (λ (e : l.resource_count ≡ most_resources). omega arith)) ∙ cond-false _ _ _ (le-ltb _ _ h.policy_known) ∙ cond-false _ _ _ (le-ltb _ _ h.preempt_known)
+      cond-false _ _ _ (ne_eqb _ _ (λ (e : resource_count l ≡ most_resources). omega arith)) ∙ cond-false _ _ _ (le-ltb _ _ h.policy_known) ∙ cond-false _ _ _ (le-ltb _ _ h.preempt_known)
 
 -- The tasks that an entry needs
 
@@ -120,9 +120,9 @@ module _ (l : Layout) (e : TaskEntry) (j : ℕ) where
 -- A task
 
 module _ (l : Layout) (e : TaskEntry) where
-  pub admitted : accepts (task_comes_to l e) ≡ true → l.count ≤ most_tasks → EntersTask l e
+  pub admitted : accepts (task_comes_to l e) ≡ true → task_count l ≤ most_tasks → EntersTask l e
   admitted h few =
-      let room = passed (l.count == most_tasks) (Err NoRoom) _ refl h in
+      let room = passed (task_count l == most_tasks) (Err NoRoom) _ refl h in
       let fields = inside (outside_field e) _ room.1 in
       let f1 = none (not (is_within 0 most_ticks e.offset)) 1 _ fields.0 in
       let f2 = none (not (is_within 1 most_ticks e.least)) 2 _ f1.1 in
@@ -131,9 +131,9 @@ module _ (l : Layout) (e : TaskEntry) where
       let f5 = none (not (is_within e.best most_ticks e.worst)) 5 _ f4.1 in
       let f6 = none (not (is_within 1 e.least e.deadline)) 6 _ f5.1 in
       let f7 = none (nat_le classes e.class) 7 _ f6.1 in
-      let on = passed (nat_le l.resource_count e.resource) (Err (NotEntered 8)) _ refl fields.1 in
-      let earlier = passed (nat_lt 0 (e.needs / 2 ^ l.count)) (Err (NotEntered 9)) _ refl on.1 in
-      let alike = no_unlike (find (unlike l e) (range_with_len 0 l.count)) l.count earlier.1 in
+      let on = passed (nat_le (resource_count l) e.resource) (Err (NotEntered 8)) _ refl fields.1 in
+      let earlier = passed (nat_lt 0 (e.needs / 2 ^ task_count l)) (Err (NotEntered 9)) _ refl on.1 in
+      let alike = no_unlike (find (unlike l e) (range_with_len 0 (task_count l))) (task_count l) earlier.1 in
       record {
         room = omega (arith, eqb-false _ _ room.0);
         offset = (within f1.0).1;
@@ -145,14 +145,14 @@ module _ (l : Layout) (e : TaskEntry) where
         class = leb-false _ _ f7.0;
         resource = leb-false _ _ on.0;
         needs = λ j b.
-            let lt = bits_below e.needs l.count (ltb-false _ _ earlier.0) j b in
-            (lt, like_gap l e j (none_found (unlike l e) l.count 0 alike j (omega arith) (omega arith)) b);
+            let lt = bits_below e.needs (task_count l) (ltb-false _ _ earlier.0) j b in
+            (lt, like_gap l e j (none_found (unlike l e) (task_count l) 0 alike j (omega arith) (omega arith)) b);
       }
     where
       within : {low high x : ℕ} → not (is_within low high x) ≡ false → (low ≤ x) × (x ≤ high)
       within {low} {high} {x} f = grind (arith, nat_tests)
 
-  pub enters_task : EntersTask l e → task_comes_to l e ≡ Ok l.count
+  pub enters_task : EntersTask l e → task_comes_to l e ≡ Ok (task_count l)
   enters_task h =
       let in_range : (low high x : ℕ) → low ≤ x → x ≤ high → not (is_within low high x) ≡ false = λ low high x a b. not_from_true _ (and_from _ _ (le-leb _ _ a) (le-leb _ _ b)) in
       let fields : outside_field e ≡ None =
@@ -161,7 +161,7 @@ module _ (l : Layout) (e : TaskEntry) where
       ∙ cond-false _ _ _ (in_range 1 most_ticks e.best h.best.0 h.best.1)
       ∙ cond-false _ _ _ (in_range e.best most_ticks e.worst h.worst.0 h.worst.1)
       ∙ cond-false _ _ _ (in_range 1 e.least e.deadline h.deadline.0 h.deadline.1) ∙ cond-false _ _ _ (lt-leb _ _ h.class) in
-      let alike = found_none (unlike l e) l.count 0 (λ j. gap_like l e j (λ b. (h.needs j b).1)) in
-      cond-false _ _ _ (ne_eqb _ _ (λ (q : l.count ≡ most_tasks). omega arith)) ∙ not_outside (outside_field e) _ fields
-      ∙ cond-false _ _ _ (lt-leb _ _ h.resource) ∙ cond-false _ _ _ (le-ltb _ _ (none_above e.needs l.count (λ j b. (h.needs j b).0)))
-      ∙ ap (λ o. if_alike o (Ok l.count)) alike
+      let alike = found_none (unlike l e) (task_count l) 0 (λ j. gap_like l e j (λ b. (h.needs j b).1)) in
+      cond-false _ _ _ (ne_eqb _ _ (λ (q : task_count l ≡ most_tasks). omega arith)) ∙ not_outside (outside_field e) _ fields
+      ∙ cond-false _ _ _ (lt-leb _ _ h.resource) ∙ cond-false _ _ _ (le-ltb _ _ (none_above e.needs (task_count l) (λ j b. (h.needs j b).0)))
+      ∙ ap (λ o. if_alike o (Ok (task_count l))) alike

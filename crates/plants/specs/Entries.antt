@@ -6,15 +6,15 @@ use Rattle.std.specs.List.{find, range_with_len}
 use Rattle.systems.specs.Outcomes.{Outcome, accepts}
 use Rattle.systems.specs.declared.outcome.Refusal.TheVariants.{FieldOutside, NoRoom, NotEntered, GapsUnlike}
 use Rattle.plants.specs.Limits.{most_ticks, most_resources, most_tasks}
-use Rattle.plants.specs.Layouts.{is_within, unlike, entered, with_task, with_resource}
+use Rattle.plants.specs.Layouts.{is_within, unlike, entered, with_task, with_resource, resource_count, task_count}
 use Rattle.plants.specs.declared.layout.TaskEntry.{TaskEntry}
 use Rattle.plants.specs.declared.layout.Layout.{Layout}
 
 -- a policy number is 0 to 2, and a preempt number 0 or 1
 abbrev pub resource_comes_to : Layout → ℕ → ℕ → Outcome
 resource_comes_to l policy preempt =
-    cond (l.resource_count == most_resources) (Err NoRoom)
-    (cond (nat_lt earliest_deadline policy) (Err (FieldOutside 1)) (cond (nat_lt preemptive preempt) (Err (FieldOutside 2)) (Ok l.resource_count)))
+    cond (resource_count l == most_resources) (Err NoRoom)
+    (cond (nat_lt earliest_deadline policy) (Err (FieldOutside 1)) (cond (nat_lt preemptive preempt) (Err (FieldOutside 2)) (Ok (resource_count l))))
 
 abbrev pub after_resource : Layout → ℕ → ℕ → Layout
 after_resource l policy preempt =
@@ -44,11 +44,11 @@ if_alike None o = o
 -- a needed task that is not entered is a bit at or above the place of the count
 abbrev pub task_comes_to : Layout → TaskEntry → Outcome
 task_comes_to l e =
-    cond (l.count == most_tasks) (Err NoRoom)
+    cond (task_count l == most_tasks) (Err NoRoom)
     (if_inside (outside_field e)
-    (cond (nat_le l.resource_count e.resource) (Err (NotEntered 8))
-    (cond (nat_lt 0 (e.needs / 2 ^ l.count)) (Err (NotEntered 9))
-    (if_alike (find (unlike l e) (range_with_len 0 l.count)) (Ok l.count)))))
+    (cond (nat_le (resource_count l) e.resource) (Err (NotEntered 8))
+    (cond (nat_lt 0 (e.needs / 2 ^ task_count l)) (Err (NotEntered 9))
+    (if_alike (find (unlike l e) (range_with_len 0 (task_count l))) (Ok (task_count l))))))
 
 abbrev pub after_task : Layout → TaskEntry → Layout
 after_task l e = cond (accepts (task_comes_to l e)) (with_task l (entered e)) l

@@ -1,5 +1,5 @@
 -- The entries of a plant.
-use Rattle.std.specs.Prelude.{ℕ, ◌+◌, Bool, not, ◌&&◌, replicate, ◌==◌, nat_le, nat_lt, slice_index, slice_index_or, slice_set}
+use Rattle.std.specs.Prelude.{ℕ, Bool, not, ◌&&◌, [], ◌∷◌, ◌++◌, length, ◌==◌, nat_le, nat_lt, slice_index, slice_index_or}
 use Rattle.policies.specs.Classes.{priorities}
 use Rattle.plants.specs.Limits.{most_ticks, most_resources, most_tasks}
 use Rattle.plants.specs.Bits.{bit}
@@ -28,18 +28,23 @@ no_resource = record { policy = 0; preempt = 0 }
 -- no entry
 abbrev pub nothing : Layout
 nothing = record {
-  resources = replicate most_resources no_resource;
-  resource_count = 0;
-  tasks = replicate most_tasks no_task;
-  count = 0;
+  resources = record { items = [] };
+  tasks = record { items = [] };
 }
 
+-- how many resources and tasks were entered
+abbrev pub resource_count : Layout → ℕ
+resource_count l = length l.resources.items
+
+abbrev pub task_count : Layout → ℕ
+task_count l = length l.tasks.items
+
 abbrev pub task_at : Layout → ℕ → Task
-task_at l i = slice_index_or l.tasks i no_task
+task_at l i = slice_index_or l.tasks.items i no_task
 
 -- the resource that task i is on
 abbrev pub resource_of : Layout → ℕ → Resource
-resource_of l i = slice_index_or l.resources (task_at l i).resource no_resource
+resource_of l i = slice_index_or l.resources.items (task_at l i).resource no_resource
 
 abbrev pub is_within : ℕ → ℕ → ℕ → Bool
 is_within low high x = nat_le low x && nat_le x high
@@ -66,17 +71,13 @@ entered e = record {
 abbrev pub with_task : Layout → Task → Layout
 with_task l t = record {
   resources = l.resources;
-  resource_count = l.resource_count;
-  tasks = slice_set l.tasks l.count t;
-  count = l.count + 1;
+  tasks = record { items = l.tasks.items ++ t ∷ [] };
 }
 
 abbrev pub with_resource : Layout → Resource → Layout
 with_resource l r = record {
-  resources = slice_set l.resources l.resource_count r;
-  resource_count = l.resource_count + 1;
+  resources = record { items = l.resources.items ++ r ∷ [] };
   tasks = l.tasks;
-  count = l.count;
 }
 
 -- the fields of a task are within their ranges
@@ -87,8 +88,8 @@ in_ranges t =
 
 -- task i is within its ranges, and on a resource that was entered
 unfoldable pub valid_at : Layout → ℕ → Bool
-valid_at l i = in_ranges (task_at l i) && nat_lt (task_at l i).resource l.resource_count
+valid_at l i = in_ranges (task_at l i) && nat_lt (task_at l i).resource (resource_count l)
 
 -- what holds of every draft and every plant, and what the rules of the tick need: counts within the limits, and valid tasks
 abbrev pub valid : Layout → Bool
-valid l = nat_le l.resource_count most_resources && nat_le l.count most_tasks && all_below (valid_at l) l.count
+valid l = nat_le (resource_count l) most_resources && nat_le (task_count l) most_tasks && all_below (valid_at l) (task_count l)

@@ -9,7 +9,7 @@ use Rattle.systems.proofs.Lowest.{refuted}
 use Rattle.plants.specs.Limits.{most_tasks}
 use Rattle.plants.specs.Bits.{bit}
 use Rattle.plants.specs.Below.{any_below}
-use Rattle.plants.specs.Layouts.{task_at, in_ranges}
+use Rattle.plants.specs.Layouts.{task_at, in_ranges, task_count}
 use Rattle.plants.specs.Records.{rec, at, is_held, is_ready, released, readied, grown_by, finished}
 use Rattle.plants.specs.Tick.{Order, fits_in, fits_task, fits_at, is_blank, is_late, state_fits, late_at, release_in, release_obeys, finish_in, finish_obeys, claiming, comes_ready, after_releases, after_growth, task_runs, ticked, choice_legal, next_records}
 use Rattle.plants.specs.declared.layout.Task.{Task}
@@ -96,12 +96,12 @@ module _ (order : Order) (l : Layout) (c : ℕ) (rs : List Record) (v : Valid l)
   abbrev claims : List Record
   claims = claiming l c rs
 
-  not_late : (k : ℕ) → k < l.count → is_late (task_at l k) (at rs k) ≡ false
+  not_late : (k : ℕ) → k < task_count l → is_late (task_at l k) (at rs k) ≡ false
   unfolding late_at
   not_late k lt =
-      refuted (late_at l rs k) (λ e. both_ways (any_below (late_at l rs) l.count) ok.good (any_stops (late_at l rs) l.count k lt e))
+      refuted (late_at l rs k) (λ e. both_ways (any_below (late_at l rs) (task_count l)) ok.good (any_stops (late_at l rs) (task_count l) k lt e))
 
-  room_1 : (k : ℕ) → k < l.count → room (task_at l k) (at (after_releases l c rs) k) ≡ true
+  room_1 : (k : ℕ) → k < task_count l → room (task_at l k) (at (after_releases l c rs) k) ≡ true
   unfolding release_obeys
   room_1 k lt =
       ap (room (task_at l k)) ((released_made l v rs c).entered k lt)
@@ -111,7 +111,7 @@ module _ (order : Order) (l : Layout) (c : ℕ) (rs : List Record) (v : Valid l)
   unfolding comes_ready
   was_held ss k h = (and_parts (is_held (at ss k).phase) _ h).0
 
-  room_2 : (k : ℕ) → k < l.count → room (task_at l k) (at claims k) ≡ true
+  room_2 : (k : ℕ) → k < task_count l → room (task_at l k) (at claims k) ≡ true
   room_2 k lt =
       let ss = after_releases l c rs in
       let r = at ss k in
@@ -122,35 +122,35 @@ module _ (order : Order) (l : Layout) (c : ℕ) (rs : List Record) (v : Valid l)
   unfolding task_runs
   was_ready ss k h = (and_parts (is_ready (at ss k).phase) _ h).0
 
-  ticked_at : (k : ℕ) → k < l.count
-      → at (ticked order l c rs) k ≡ cond (bit c (l.count + k)) (finished (grown_by (task_runs order l claims k) (at claims k))) (grown_by (task_runs order l claims k) (at claims k))
+  ticked_at : (k : ℕ) → k < task_count l
+      → at (ticked order l c rs) k ≡ cond (bit c (task_count l + k)) (finished (grown_by (task_runs order l claims k) (at claims k))) (grown_by (task_runs order l claims k) (at claims k))
   ticked_at k lt =
       (finished_made l v (after_growth order l claims) c).entered k lt
-      ∙ ap (λ r. cond (bit c (l.count + k)) (finished r) r) ((grown_made l v claims order).entered k lt)
+      ∙ ap (λ r. cond (bit c (task_count l + k)) (finished r) r) ((grown_made l v claims order).entered k lt)
 
-  entered_fits : (k : ℕ) → k < l.count → fits_task (task_at l k) (at (ticked order l c rs) k) ≡ true
+  entered_fits : (k : ℕ) → k < task_count l → fits_task (task_at l k) (at (ticked order l c rs) k) ≡ true
   unfolding finish_obeys
   entered_fits k lt =
       let r = at claims k in
       ap (fits_task (task_at l k)) (ticked_at k lt)
-      ∙ grown_fits (task_at l k) r.phase r.since r.run r.waited (task_runs order l claims k) (bit c (l.count + k)) (within l v k lt).ranges (room_2 k lt) (was_ready claims k) (ok.finishes k lt)
+      ∙ grown_fits (task_at l k) r.phase r.since r.run r.waited (task_runs order l claims k) (bit c (task_count l + k)) (within l v k lt).ranges (room_2 k lt) (was_ready claims k) (ok.finishes k lt)
 
-  past : (k : ℕ) → k < most_tasks → l.count ≤ k → at (ticked order l c rs) k ≡ at rs k
+  past : (k : ℕ) → k < most_tasks → task_count l ≤ k → at (ticked order l c rs) k ≡ at rs k
   past k lt le =
       (finished_made l v (after_growth order l claims) c).others k lt le ∙ (grown_made l v claims order).others k lt le
       ∙ (readied_made l v (after_releases l c rs)).others k lt le ∙ (released_made l v rs c).others k lt le
 
-  blank_past : (k : ℕ) → k < most_tasks → l.count ≤ k → is_blank (at rs k) ≡ true
+  blank_past : (k : ℕ) → k < most_tasks → task_count l ≤ k → is_blank (at rs k) ≡ true
   unfolding fits_at
-  blank_past k lt le = sym (cond-false _ _ _ (le-ltb k l.count le)) ∙ (fits_parts l rs ok.fitting).each_fits k lt
+  blank_past k lt le = sym (cond-false _ _ _ (le-ltb k (task_count l) le)) ∙ (fits_parts l rs ok.fitting).each_fits k lt
 
   fits_each : (k : ℕ) → k < most_tasks → fits_at l (ticked order l c rs) k ≡ true
   unfolding fits_at
   fits_each k lt =
       ⊎_elim
-      (λ (h : k < l.count). cond-true _ _ _ (lt-ltb k l.count h) ∙ entered_fits k h)
-      (λ (h : l.count ≤ k). cond-false _ _ _ (le-ltb k l.count h) ∙ ap is_blank (past k lt h) ∙ blank_past k lt h)
-      (cases_lt k l.count)
+      (λ (h : k < task_count l). cond-true _ _ _ (lt-ltb k (task_count l) h) ∙ entered_fits k h)
+      (λ (h : task_count l ≤ k). cond-false _ _ _ (le-ltb k (task_count l) h) ∙ ap is_blank (past k lt h) ∙ blank_past k lt h)
+      (cases_lt k (task_count l))
 
   ticked_fits : state_fits l (ticked order l c rs) ≡ true
   ticked_fits =

@@ -11,6 +11,7 @@ use Rattle.std.proofs.lemmas.Option.{cond_some}
 use Rattle.std.proofs.lemmas.Bool.{and_parts, and_from, cond-true, eq-eqb, eqb-true, le-leb, leb-true}
 use Rattle.lines.specs.Spelling.{largest, small}
 use Rattle.lines.specs.Logging.{Numbered}
+use Rattle.plants.specs.Layouts.{task_count}
 use Rattle.plants.specs.Limits.{most_ticks, most_tasks}
 use Rattle.plants.specs.Below.{all_below}
 use Rattle.plants.specs.Records.{phase_number, phase_of, is_phase, blank, first_state, at, each, Low}
@@ -140,24 +141,24 @@ module _ (l : Layout) (v : Valid l) (s : PlantState) (f : state_fits l s.records
   fitting : Fits l s
   fitting = (fits_decides l s v.tasks_few).0 f
 
-  enough_records : l.count ≤ length s.records
+  enough_records : task_count l ≤ length s.records
   enough_records = omega (arith, fitting.long, v.tasks_few)
 
-  few_numbers : length (state_numbers l.count s.records) ≤ per_task * most_tasks
-  few_numbers = omega (arith, length_numbers s.records l.count enough_records, v.tasks_few)
+  few_numbers : length (state_numbers (task_count l) s.records) ≤ per_task * most_tasks
+  few_numbers = omega (arith, length_numbers s.records (task_count l) enough_records, v.tasks_few)
 
-  numbers_small : small (state_numbers l.count s.records) ≡ true
+  numbers_small : small (state_numbers (task_count l) s.records) ≡ true
   unfolding state_numbers
   numbers_small =
-      small_numbers (take l.count s.records)
+      small_numbers (take (task_count l) s.records)
       (λ k lt.
-      let below : k < l.count = omega (arith, length-take-le l.count s.records enough_records) in
-      subst Low (sym (get_or-take l.count s.records k blank below)) (low_one l v s.records f k below))
+      let below : k < task_count l = omega (arith, length-take-le (task_count l) s.records enough_records) in
+      subst Low (sym (get_or-take (task_count l) s.records k blank below)) (low_one l v s.records f k below))
 
-  restores : state_of l.count (state_numbers l.count s.records) ≡ Some s
+  restores : state_of (task_count l) (state_numbers (task_count l) s.records) ≡ Some s
   unfolding state_with
   restores =
-      let n = l.count in
+      let n = task_count l in
       let ns = state_numbers n s.records in
       let same : s.records ≡ each n (λ i r. record_of ns i) first_state.records =
       made_each (λ i r. record_of ns i) first_state.records n s.records (record {
@@ -169,12 +170,12 @@ module _ (l : Layout) (v : Valid l) (s : PlantState) (f : state_fits l s.records
       ∙ ap (λ (rs : List Record). Some (record { records = rs })) (sym same)
 
 pub plant_numbered : (order : Order) (l : Layout) → Valid l
-    → Numbered (plant_meaning order l) (λ s. state_numbers l.count s.records) (state_of l.count)
+    → Numbered (plant_meaning order l) (λ s. state_numbers (task_count l) s.records) (state_of (task_count l))
 plant_numbered order l v = record {
   few = few_numbers l v;
   small_numbers = numbers_small l v;
   restores = restores l v;
   one_list = λ x ns f e.
-      let p = proper_restored l.count ns x e in
-      numbers_back l.count ns v.tasks_few p.0 ∙ ap (λ (s : PlantState). state_numbers l.count s.records) p.1;
+      let p = proper_restored (task_count l) ns x e in
+      numbers_back (task_count l) ns v.tasks_few p.0 ∙ ap (λ (s : PlantState). state_numbers (task_count l) s.records) p.1;
 }

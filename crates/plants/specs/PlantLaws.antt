@@ -6,7 +6,7 @@ use Rattle.std.proofs.lemmas.List.{get_or-replicate}
 use Rattle.std.proofs.lemmas.Bool.{cond-true, cond-false, lt-ltb, le-ltb, ltb-true, cases_lt}
 use Rattle.systems.specs.Systems.{Lawful}
 use Rattle.plants.specs.Limits.{most_tasks}
-use Rattle.plants.specs.Layouts.{task_at}
+use Rattle.plants.specs.Layouts.{task_at, task_count}
 use Rattle.plants.specs.Records.{blank, first_state}
 use Rattle.plants.specs.Tick.{Order, fits_at, fits_task, is_blank, choice_legal, ticked}
 use Rattle.plants.specs.Meanings.{plant_meaning}
@@ -28,9 +28,9 @@ unfolding fits_at
 blank_fits l k lt =
     let e = get_or-replicate most_tasks k blank blank lt in
     ⊎_elim
-    (λ (h : k < l.count). cond-true _ _ _ (lt-ltb k l.count h) ∙ ap (fits_task (task_at l k)) e ∙ blank_task (task_at l k))
-    (λ (h : l.count ≤ k). cond-false _ _ _ (le-ltb k l.count h) ∙ ap is_blank e)
-    (cases_lt k l.count)
+    (λ (h : k < task_count l). cond-true _ _ _ (lt-ltb k (task_count l) h) ∙ ap (fits_task (task_at l k)) e ∙ blank_task (task_at l k))
+    (λ (h : task_count l ≤ k). cond-false _ _ _ (le-ltb k (task_count l) h) ∙ ap is_blank e)
+    (cases_lt k (task_count l))
 
 pub of_records : (s s' : PlantState) → s.records ≡ s'.records → s ≡ s'
 of_records s s' e = ap (λ rs. record { records = rs }) e

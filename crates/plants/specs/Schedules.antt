@@ -4,7 +4,7 @@ use Rattle.std.specs.List.{range_with_len, filter, list_all}
 use Rattle.policies.specs.Orders.{site}
 use Rattle.systems.specs.Systems.{Meaning, led}
 use Rattle.plants.specs.Limits.{most_tasks}
-use Rattle.plants.specs.Layouts.{nothing}
+use Rattle.plants.specs.Layouts.{nothing, resource_count, task_count}
 use Rattle.plants.specs.Entries.{after_resource, after_task}
 use Rattle.plants.specs.Records.{blank}
 use Rattle.plants.specs.Meanings.{plant_meaning}
@@ -49,7 +49,7 @@ layout_of p = with_tasks (with_resources nothing p.resources) p.tasks
 
 -- no entry was refused
 abbrev all_entered : Plan → Bool
-all_entered p = (layout_of p).resource_count == length p.resources && (layout_of p).count == length p.tasks
+all_entered p = resource_count (layout_of p) == length p.resources && task_count (layout_of p) == length p.tasks
 
 -- the plant as a system, under the site's policy
 abbrev system_of : Plan → Meaning PlantState

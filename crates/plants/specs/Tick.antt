@@ -5,7 +5,7 @@ use Rattle.policies.specs.declared.policy.Claim.{Claim}
 use Rattle.plants.specs.Limits.{most_tasks}
 use Rattle.plants.specs.Bits.{bit}
 use Rattle.plants.specs.Below.{all_below, any_below}
-use Rattle.plants.specs.Layouts.{task_at, resource_of}
+use Rattle.plants.specs.Layouts.{task_at, resource_of, task_count}
 use Rattle.plants.specs.Records.{is_before, is_done, is_held, is_ready, released, readied, grown_by, finished, at, each}
 use Rattle.plants.specs.declared.layout.Task.{Task}
 use Rattle.plants.specs.declared.layout.Layout.{Layout}
@@ -44,7 +44,7 @@ abbrev pub is_blank : Record → Bool
 is_blank r = is_before r.phase && r.since == 0 && r.run == 0 && r.waited == 0
 
 unfoldable pub fits_at : Layout → List Record → ℕ → Bool
-fits_at l rs i = cond (nat_lt i l.count) (fits_task (task_at l i) (at rs i)) (is_blank (at rs i))
+fits_at l rs i = cond (nat_lt i (task_count l)) (fits_task (task_at l i) (at rs i)) (is_blank (at rs i))
 
 -- there are as many records as there should be, and each fits
 unfoldable pub state_fits : Layout → List Record → Bool
@@ -58,7 +58,7 @@ unfoldable pub late_at : Layout → List Record → ℕ → Bool
 late_at l rs i = is_late (task_at l i) (at rs i)
 
 abbrev pub state_bad : Layout → List Record → Bool
-state_bad l rs = any_below (late_at l rs) l.count
+state_bad l rs = any_below (late_at l rs) (task_count l)
 
 -- Rule 1: releases
 
@@ -73,7 +73,7 @@ unfoldable pub release_obeys : Layout → ℕ → List Record → ℕ → Bool
 release_obeys l c rs i = release_in (task_at l i) (at rs i).phase (at rs i).since (bit c i)
 
 abbrev pub after_releases : Layout → ℕ → List Record → List Record
-after_releases l c rs = each l.count (λ i r. cond (bit c i) released r) rs
+after_releases l c rs = each (task_count l) (λ i r. cond (bit c i) released r) rs
 
 -- Rule 2: after all releases, a held task whose needed tasks are all done becomes ready
 
@@ -87,7 +87,7 @@ unfoldable pub comes_ready : Layout → List Record → ℕ → Bool
 comes_ready l rs i = is_held (at rs i).phase && all_met (task_at l i).needs rs
 
 abbrev pub after_readying : Layout → List Record → List Record
-after_readying l rs = each l.count (λ i r. cond (comes_ready l rs i) (readied r) r) rs
+after_readying l rs = each (task_count l) (λ i r. cond (comes_ready l rs i) (readied r) r) rs
 
 -- Rule 3: on each resource the ready task that goes before every other ready one runs
 
@@ -114,7 +114,7 @@ module _ (order : Order) (l : Layout) where
   ahead_of rs i j = not (rivals l rs i j) || goes_before rs i j
 
   unfoldable pub task_runs : List Record → ℕ → Bool
-  task_runs rs i = is_ready (at rs i).phase && all_below (ahead_of rs i) l.count
+  task_runs rs i = is_ready (at rs i).phase && all_below (ahead_of rs i) (task_count l)
 
   -- task i is on the resource and runs
   abbrev pub runs_on : List Record → ℕ → ℕ → Bool
@@ -122,7 +122,7 @@ module _ (order : Order) (l : Layout) where
 
   -- Rule 4: growth
   abbrev pub after_growth : List Record → List Record
-  after_growth rs = each l.count (λ i r. grown_by (task_runs rs i) r) rs
+  after_growth rs = each (task_count l) (λ i r. grown_by (task_runs rs i) r) rs
 
 -- Rule 5: finishes
 
@@ -133,10 +133,10 @@ finish_in t runs run b = cond b (runs && nat_le t.best run) (not (runs && run ==
 -- the finish bit of task i obeys the rule, where rs are the records after rule 2
 unfoldable pub finish_obeys : Order → Layout → ℕ → List Record → ℕ → Bool
 finish_obeys order l c rs i =
-    finish_in (task_at l i) (task_runs order l rs i) (grown_by (task_runs order l rs i) (at rs i)).run (bit c (l.count + i))
+    finish_in (task_at l i) (task_runs order l rs i) (grown_by (task_runs order l rs i) (at rs i)).run (bit c (task_count l + i))
 
 abbrev pub after_finishes : Layout → ℕ → List Record → List Record
-after_finishes l c rs = each l.count (λ i r. cond (bit c (l.count + i)) (finished r) r) rs
+after_finishes l c rs = each (task_count l) (λ i r. cond (bit c (task_count l + i)) (finished r) r) rs
 
 -- The tick
 
@@ -148,8 +148,8 @@ module _ (order : Order) (l : Layout) (c : ℕ) (rs : List Record) where
   -- at a state that fits and is not bad, a choice below the count is legal exactly when every bit obeys
   abbrev pub choice_legal : Bool
   choice_legal =
-      state_fits l rs && not (state_bad l rs) && nat_lt c (4 ^ l.count) && all_below (release_obeys l c rs) l.count
-      && all_below (finish_obeys order l c (claiming l c rs)) l.count
+      state_fits l rs && not (state_bad l rs) && nat_lt c (4 ^ task_count l) && all_below (release_obeys l c rs) (task_count l)
+      && all_below (finish_obeys order l c (claiming l c rs)) (task_count l)
 
   abbrev pub ticked : List Record
   ticked = after_finishes l c (after_growth order l (claiming l c rs))

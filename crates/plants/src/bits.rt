@@ -2,6 +2,7 @@
 ghost use Rattle.std.specs.Prelude.{◌≡◌, ◌<◌};
 ghost use Rattle.plants.specs.Bits.{bit};
 
+// Whether bit i of the number is 1.
 pub(crate) fn has_bit(n: u32, i: usize) -> bool
     requires { i < 32 }
     ensures { result ≡ bit n i }

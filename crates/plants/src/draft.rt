@@ -1,9 +1,10 @@
-// A draft plant, which takes entries until it is fixed.
+// A draft plant.
 ghost use Rattle.std.specs.Prelude.{◌≡◌, true};
 ghost use Rattle.plants.specs.Layouts.{valid as layout_valid};
 
 use crate::layout::Layout;
 
+// Takes entries until it is fixed.
 #[derive(Drop)]
 pub struct DraftPlant {
     pub(crate) layout: Layout,

@@ -1,18 +1,20 @@
 // The calls of a draft: what an entry comes to, what it leaves, and fixing.
+// The bound of a task's number is a clause of each function, since the rules count with numbers.
 ghost use Rattle.std.specs.Prelude.{◌≡◌, ℕ, ◌<◌, ◌≤◌, List};
 ghost use Rattle.std.specs.List.{find, range_with_len};
 ghost use Rattle.systems.specs.Outcomes.{answer_of};
 ghost use Rattle.policies.specs.Classes.{classes};
 ghost use Rattle.plants.specs.Limits.{most_tasks, most_resources};
-ghost use Rattle.plants.specs.Layouts.{nothing, is_within, unlike, entered, with_task, with_resource};
+ghost use Rattle.plants.specs.Layouts.{nothing, is_within, unlike, entered, with_task, with_resource, resource_count, task_count};
 ghost use Rattle.plants.specs.Chains.{RunsChain};
 ghost use Rattle.plants.specs.Entries.{outside_field, resource_comes_to, task_comes_to, after_resource, after_task};
 ghost use Rattle.plants.specs.Entering.{EntersResource, EntersTask, EnteredExactly};
 
 use crate::bits::has_bit;
 use crate::draft::DraftPlant;
-use crate::layout::{Layout, MOST_RESOURCES, MOST_TASKS, MOST_TICKS, Resource, Task, TaskEntry};
+use crate::layout::{Layout, MOST_TICKS, Resource, Task, TaskEntry};
 use crate::plant::Plant;
+use arrayvec::ArrayVec;
 use policies::classes::priority;
 use policies::orders::Discipline;
 use policies::policy::Policy;
@@ -29,14 +31,20 @@ impl DraftPlant {
     pub fn new() -> DraftPlant
         ensures { result.layout ≡ nothing }
     {
-        DraftPlant { layout: empty() }
+        DraftPlant {
+            layout: Layout {
+                resources: ArrayVec::new(),
+                tasks: ArrayVec::new(),
+            },
+        }
     }
 
-    // Enters a resource and answers its number, or refuses it and changes nothing.
+    // Enters a resource and answers its number, or refuses it and changes nothing. Two plain numbers by a rule of the
+    // project, as those of `Resource`.
     pub fn add_resource(&mut self, policy: u32, preempt: u32) -> Answer
         ensures answer { result ≡ answer_of (resource_comes_to self.old.layout policy preempt) }
         ensures after { self.new.layout ≡ after_resource self.old.layout policy preempt }
-        ensures exact { EnteredExactly (EntersResource self.old.layout policy preempt) self.old.layout.resource_count result }
+        ensures exact { EnteredExactly (EntersResource self.old.layout policy preempt) (resource_count self.old.layout) result }
     {
         answer(self.enter_resource(policy, preempt))
     }
@@ -45,44 +53,48 @@ impl DraftPlant {
     pub fn add_task(&mut self, task: TaskEntry) -> Answer
         ensures answer { result ≡ answer_of (task_comes_to self.old.layout task) }
         ensures after { self.new.layout ≡ after_task self.old.layout task }
-        ensures exact { EnteredExactly (EntersTask self.old.layout task) self.old.layout.count result }
+        ensures exact { EnteredExactly (EntersTask self.old.layout task) (task_count self.old.layout) result }
     {
         answer(self.enter_task(&task))
     }
 
     // How many tasks are entered.
     pub fn task_count(&self) -> usize
-        ensures { result ≡ self.now.layout.count }
+        ensures { result ≡ task_count self.now.layout }
     {
-        self.layout.count
+        self.layout.tasks.len()
     }
 
     // Moves the draft into a plant that holds exactly its entries, and whose runs are the chains of its ticks.
+    #[tactic(auto, using(crate::proofs::Chained::runs_chain, crate::specs::Entered::valid_parts))]
     pub fn fix<P: Policy>(self, policy: P) -> Plant<P>
         ensures layout { result.layout ≡ self.layout }
         ensures policy { result.policy ≡ policy }
         ensures runs { (choices : List ℕ) → RunsChain (P.order result.policy) result.layout choices }
     {
-        fixed(self, policy)
+        let DraftPlant { layout } = self;
+        Plant { layout, policy }
     }
 
+    // Enters a resource, and gives its number or why it may not enter.
     fn enter_resource(&mut self, policy: u32, preempt: u32) -> Outcome
         ensures outcome { result ≡ resource_comes_to self.old.layout policy preempt }
         ensures after { self.new.layout ≡ after_resource self.old.layout policy preempt }
-        ensures few { self.old.layout.resource_count ≤ most_resources }
+        ensures few { resource_count self.old.layout ≤ most_resources }
     {
         let number = self.check_resource(policy, preempt)?;
-        self.layout.add_resource(Resource { policy, preempt });
+        self.layout.resources.push(Resource { policy, preempt });
         Ok(number)
     }
 
+    // Enters a task, and gives its number or why it may not enter.
     fn enter_task(&mut self, task: &TaskEntry) -> Outcome
         ensures outcome { result ≡ task_comes_to self.old.layout task.now }
         ensures after { self.new.layout ≡ after_task self.old.layout task.now }
-        ensures few { self.old.layout.count ≤ most_tasks }
+        ensures few { task_count self.old.layout ≤ most_tasks }
     {
         let number = self.check_task(task)?;
-        self.layout.add_task(entered(task));
+        self.layout.tasks.push(entered(task));
         Ok(number)
     }
 
@@ -90,8 +102,8 @@ impl DraftPlant {
     fn check_resource(&self, policy: u32, preempt: u32) -> Outcome
         ensures { result ≡ resource_comes_to self.now.layout policy preempt }
     {
-        let number = self.layout.resource_count;
-        if number == MOST_RESOURCES {
+        let number = self.layout.resources.len();
+        if self.layout.resources.is_full() {
             return Err(Refusal::NoRoom);
         }
         if Discipline::try_from(policy).is_err() {
@@ -107,14 +119,14 @@ impl DraftPlant {
     fn check_task(&self, task: &TaskEntry) -> Outcome
         ensures { result ≡ task_comes_to self.now.layout task.now }
     {
-        let number = self.layout.count;
-        if number == MOST_TASKS {
+        let number = self.layout.tasks.len();
+        if self.layout.tasks.is_full() {
             return Err(Refusal::NoRoom);
         }
         if let Some(field) = field_outside(task) {
             return Err(Refusal::FieldOutside(field));
         }
-        if task.resource as usize >= self.layout.resource_count {
+        if task.resource as usize >= self.layout.resources.len() {
             return Err(Refusal::NotEntered(RESOURCE_FIELD));
         }
         if task.needs >> number > 0 {
@@ -128,64 +140,13 @@ impl DraftPlant {
 
     // The lowest needed task whose gaps are unlike the entry's.
     fn first_unlike(&self, task: &TaskEntry) -> Option<usize>
-        ensures { result ≡ find (unlike self.now.layout task.now) (range_with_len 0 self.now.layout.count) }
+        ensures { result ≡ find (unlike self.now.layout task.now) (range_with_len 0 (task_count self.now.layout)) }
     {
-        (0..self.layout.count).find(|j| is_unlike(&self.layout, task, *j))
+        (0..self.layout.tasks.len()).find(|j| is_unlike(&self.layout, task, *j))
     }
 }
 
-impl Layout {
-    fn add_resource(&mut self, resource: Resource)
-        requires { self.old.resource_count < most_resources }
-        ensures { self.new ≡ with_resource self.old resource }
-    {
-        self.resources[self.resource_count] = resource;
-        self.resource_count += 1;
-    }
-
-    fn add_task(&mut self, task: Task)
-        requires { self.old.count < most_tasks }
-        ensures { self.new ≡ with_task self.old task }
-    {
-        self.tasks[self.count] = task;
-        self.count += 1;
-    }
-}
-
-fn fixed<P>(draft: DraftPlant, policy: P) -> Plant<P>
-    ensures layout { result.layout ≡ draft.layout }
-    ensures policy { result.policy ≡ policy }
-{
-    let DraftPlant { layout } = draft;
-    Plant { layout, policy }
-}
-
-fn empty() -> Layout
-    ensures { result ≡ nothing }
-{
-    let no_task = Task {
-        offset: 0,
-        least: 0,
-        greatest: 0,
-        best: 0,
-        worst: 0,
-        deadline: 0,
-        priority: 0,
-        resource: 0,
-        needs: 0,
-    };
-    let no_resource = Resource {
-        policy: 0,
-        preempt: 0,
-    };
-    Layout {
-        resources: [no_resource; MOST_RESOURCES],
-        resource_count: 0,
-        tasks: [no_task; MOST_TASKS],
-        count: 0,
-    }
-}
-
+// Of its own: where `field_outside` asks six ranges itself, the check does not prove what it returns.
 fn is_in(low: u32, high: u32, x: u32) -> bool
     ensures { result ≡ is_within low high x }
 {
@@ -217,7 +178,7 @@ fn field_outside(task: &TaskEntry) -> Option<u32>
 
 // Whether the entry needs task j and the gaps of the two are not all one number.
 fn is_unlike(layout: &Layout, task: &TaskEntry, j: usize) -> bool
-    requires { j < most_tasks }
+    requires { j < task_count layout.now }
     ensures { result ≡ unlike layout.now task.now j }
 {
     let needed = layout.tasks[j];

@@ -1,4 +1,5 @@
 // What a plant is made of.
+use arrayvec::ArrayVec;
 
 // The greatest number of ticks that a field of a task may be.
 pub const MOST_TICKS: u32 = 255;
@@ -8,14 +9,15 @@ pub const MOST_RESOURCES: usize = 4;
 
 pub const MOST_TASKS: usize = 8;
 
-#[derive(Clone, Copy, Debug, PartialEq, Eq)]
+// Two plain numbers by a rule of the project: any lawful policy may stand in a plant, and read them in its own way.
+#[derive(Clone, Copy, Debug, Default, PartialEq, Eq)]
 pub struct Resource {
     pub policy: u32,
     pub preempt: u32,
 }
 
 // A task that was entered, with the priority of its class.
-#[derive(Clone, Copy, Debug, PartialEq, Eq)]
+#[derive(Clone, Copy, Debug, Default, PartialEq, Eq)]
 pub struct Task {
     // ticks before the first release
     pub offset: u32,
@@ -33,7 +35,8 @@ pub struct Task {
     pub needs: u32,
 }
 
-// A task's nine fields as they are entered: a class stands in the place of the priority.
+// A task's nine fields as they are entered: a class stands in the place of the priority. A struct of its own: with the
+// other eight fields in one that both hold, the nine would no longer stand in their order in one literal.
 #[derive(Clone, Copy, Debug, PartialEq, Eq)]
 pub struct TaskEntry {
     pub offset: u32,
@@ -47,11 +50,9 @@ pub struct TaskEntry {
     pub needs: u32,
 }
 
-// The resources and tasks that were entered, from place 0, and how many there are of each.
-#[derive(Clone, Copy, Debug, PartialEq, Eq)]
+// The resources and tasks that were entered, in order of their numbers.
+#[derive(Clone, Debug, Drop, PartialEq, Eq)]
 pub struct Layout {
-    pub resources: [Resource; MOST_RESOURCES],
-    pub resource_count: usize,
-    pub tasks: [Task; MOST_TASKS],
-    pub count: usize,
+    pub resources: ArrayVec<Resource, MOST_RESOURCES>,
+    pub tasks: ArrayVec<Task, MOST_TASKS>,
 }

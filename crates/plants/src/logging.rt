@@ -3,6 +3,7 @@ ghost use Rattle.std.specs.Prelude.{◌≡◌, ◌≤◌, length, map};
 ghost use Rattle.systems.specs.Outcomes.{answer_of};
 ghost use Rattle.lines.specs.Writing.{writing, written};
 ghost use Rattle.lines.specs.declared.tag.Tag.TheVariants.{Offr};
+ghost use Rattle.plants.specs.Layouts.{task_count};
 ghost use Rattle.plants.specs.Limits.{most_tasks};
 ghost use Rattle.plants.specs.Numbers.{record_numbers as numbers_in, record_in, state_numbers, state_of};
 ghost use Rattle.plants.specs.Entered.{valid_parts};
@@ -16,6 +17,7 @@ use lines::loggable::Loggable;
 use lines::tag::Tag;
 use lines::write::write as write_line;
 use policies::policy::Policy;
+use systems::outcome::Answer;
 
 // How many numbers a task has.
 const PER_TASK: usize = 4;
@@ -36,7 +38,7 @@ fn numbers_of(state: &PlantState) -> [[u32; PER_TASK]; MOST_TASKS]
 
 // Writes the first n records as a line.
 #[tactic(auto, using(crate::proofs::Fours::flattened))]
-fn write_records(state: &PlantState, n: usize, out: &mut [u8]) -> (u32, usize)
+fn write_records(state: &PlantState, n: usize, out: &mut [u8]) -> Answer
     requires { n ≤ most_tasks }
     ensures answer { result ≡ answer_of (writing Offr (state_numbers n state.now.records) (length out.old)) }
     ensures after { out.new ≡ written Offr (state_numbers n state.now.records) out.old }
@@ -68,6 +70,7 @@ fn state_in(given: &[u32], n: usize) -> Option<PlantState>
         return None;
     }
     let mut state = first();
+    // By index: of what is written through an adapter of iter_mut a proof knows nothing.
     for (i, four) in fours.iter().enumerate() {
         state.records[i] = record_in(four)?;
     }
@@ -75,17 +78,17 @@ fn state_in(given: &[u32], n: usize) -> Option<PlantState>
 }
 
 impl<P: Policy> Loggable for Plant<P> {
-    ghost numbers = { λ p s. state_numbers p.layout.count s.records };
+    ghost numbers = { λ p s. state_numbers (task_count p.layout) s.records };
 
-    ghost restored = { λ p ns. state_of p.layout.count ns };
+    ghost restored = { λ p ns. state_of (task_count p.layout) ns };
 
     ghost numbered = { λ x. plant_numbered (P.Policy.order x.policy) x.layout (valid_parts x.layout x.valid) };
 
-    fn write(&self, state: &PlantState, out: &mut [u8]) -> (u32, usize) {
-        write_records(state, self.layout.count, out)
+    fn write(&self, state: &PlantState, out: &mut [u8]) -> Answer {
+        write_records(state, self.layout.tasks.len(), out)
     }
 
     fn state_of(&self, given: &[u32]) -> Option<PlantState> {
-        state_in(given, self.layout.count)
+        state_in(given, self.layout.tasks.len())
     }
 }

@@ -7,6 +7,7 @@ use crate::layout::MOST_TASKS;
 use std::error::Error;
 use std::fmt;
 
+// How far a task has come.
 #[derive(Clone, Copy, Debug, PartialEq, Eq)]
 pub enum Phase {
     // not released yet
@@ -19,7 +20,8 @@ pub enum Phase {
     Ready,
 }
 
-// A number that is no phase's.
+// A number that is no phase's. An error of this crate, with a text of its own: one shared with the
+// policies would be no plainer.
 #[derive(Clone, Copy, Debug, PartialEq, Eq)]
 pub struct UnknownPhase(pub u32);
 
@@ -36,12 +38,7 @@ impl From<Phase> for u32 {
     ghost from_gives = { λ phase number. number ≡ phase_number phase };
 
     fn from(phase: Phase) -> u32 {
-        match phase {
-            Phase::Before => 0,
-            Phase::Done => 1,
-            Phase::Held => 2,
-            Phase::Ready => 3,
-        }
+        phase as u32
     }
 }
 
@@ -61,6 +58,7 @@ impl TryFrom<u32> for Phase {
     }
 }
 
+// What a state holds of one task.
 #[derive(Clone, Copy, Debug, PartialEq, Eq)]
 pub struct Record {
     pub phase: Phase,
@@ -80,12 +78,14 @@ pub(crate) const BLANK: Record = Record {
     waited: 0,
 };
 
+// A plain table of records, by a rule of the project.
 #[derive(Clone, Copy, Debug, PartialEq, Eq)]
 pub struct PlantState {
     pub records: [Record; MOST_TASKS],
 }
 
-// Each call changes the record of task i and no other.
+// By a rule of the project each call changes the record of task i through &mut self, and no other. That i is the number
+// of a task is a clause of each, since the rules count with numbers.
 impl PlantState {
     pub(crate) fn release(&mut self, i: usize)
         requires { i < most_tasks }

@@ -1,8 +1,9 @@
 // Which states fit a plant, and which are bad.
+// The bound of a task's number is a clause of each function, since the rules count with numbers.
 ghost use Rattle.std.specs.Prelude.{◌≡◌, ◌<◌, ◌&&◌, ◌==◌, length};
 ghost use Rattle.plants.specs.Limits.{most_tasks};
 ghost use Rattle.plants.specs.Records.{first_state};
-ghost use Rattle.plants.specs.Tick.{fits_task, is_blank, fits_at, state_fits, is_late};
+ghost use Rattle.plants.specs.Tick.{fits_task, fits_at, state_fits, is_late};
 
 use crate::layout::{Layout, MOST_TASKS, Task};
 use crate::state::{BLANK, Phase, PlantState, Record};
@@ -16,6 +17,7 @@ pub(crate) fn first() -> PlantState
     }
 }
 
+// Whether a task can have the record.
 fn fits_task(task: &Task, r: &Record) -> bool
     ensures { result ≡ fits_task task.now r.now }
 {
@@ -28,25 +30,21 @@ fn fits_task(task: &Task, r: &Record) -> bool
     }
 }
 
-fn is_blank(r: &Record) -> bool
-    ensures { result ≡ is_blank r.now }
-{
-    *r == BLANK
-}
-
+// Whether record i fits the plant: that of a task fits the task, and each other one is four zeros.
 #[tactic(auto, unfolding(crate::specs::Tick::fits_at))]
 fn fits_at(layout: &Layout, state: &PlantState, i: usize) -> bool
     requires { i < most_tasks }
     ensures { result ≡ (length state.now.records == most_tasks && fits_at layout.now state.now.records i) }
 {
     let record = state.records[i];
-    if i < layout.count {
+    if i < layout.tasks.len() {
         fits_task(&layout.tasks[i], &record)
     } else {
-        is_blank(&record)
+        record == BLANK
     }
 }
 
+// Whether every record of the state fits the plant.
 pub(crate) fn fits(layout: &Layout, state: &PlantState) -> bool
     ensures { result ≡ state_fits layout.now state.now.records }
 {

@@ -1,23 +1,36 @@
 // Both sides of every range, and every refusal with its value.
+// Its loops over ranges go over numbers of entries, which index nothing.
 use plants::draft::DraftPlant;
 use plants::layout::TaskEntry;
+use systems::outcome::Answer;
 
-pub(crate) fn task(f: [u32; 9]) -> TaskEntry {
+pub(crate) fn task(fields: [u32; 9]) -> TaskEntry {
+    let [
+        offset,
+        least,
+        greatest,
+        best,
+        worst,
+        deadline,
+        class,
+        resource,
+        needs,
+    ] = fields;
     TaskEntry {
-        offset: f[0],
-        least: f[1],
-        greatest: f[2],
-        best: f[3],
-        worst: f[4],
-        deadline: f[5],
-        class: f[6],
-        resource: f[7],
-        needs: f[8],
+        offset,
+        least,
+        greatest,
+        best,
+        worst,
+        deadline,
+        class,
+        resource,
+        needs,
     }
 }
 
 // What the task is answered as the first one, with one resource entered.
-fn alone(fields: [u32; 9]) -> (u32, usize) {
+fn alone(fields: [u32; 9]) -> Answer {
     let mut draft = DraftPlant::new();
     let _ = draft.add_resource(1, 1);
     draft.add_task(task(fields))

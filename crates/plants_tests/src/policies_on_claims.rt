@@ -13,7 +13,8 @@ fn claim(task: u32, priority: u32, waited: u32, left: u32, run: u32) -> Claim {
     }
 }
 
-// Whether the first of two claims goes before the second, and the second before the first.
+// Whether the first of two claims goes before the second, and the second before the first. Plain numbers, as unknown
+// ones are asked too.
 fn asked(policy: u32, preempt: u32, a: Claim, b: Claim) -> (bool, bool) {
     (
         SitePolicy.before(policy, preempt, &a, &b),

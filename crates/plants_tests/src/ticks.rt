@@ -1,4 +1,5 @@
 // The empty plant, a plant with every task and resource, and a worked tick.
+// Its loops over ranges go over numbers of entries, which index nothing.
 use crate::entries::task;
 use plants::draft::DraftPlant;
 use plants::plant::Plant;
@@ -12,13 +13,9 @@ fn numbers(r: Record) -> (u32, u32, u32, u32) {
 
 // How many choices are legal at the state.
 fn legals(plant: &Plant<SitePolicy>, state: &PlantState) -> usize {
-    let mut found: usize = 0;
-    for choice in 0..plant.count() {
-        if plant.is_legal(state, choice) {
-            found = found.saturating_add(1);
-        }
-    }
-    found
+    (0..plant.count())
+        .filter(|choice| plant.is_legal(state, *choice))
+        .count()
 }
 
 #[test]

@@ -17,7 +17,8 @@ pub struct Claim {
     pub run: u32,
 }
 
-// Beside what it holds itself, a policy is given the resource's two numbers and two claims, and nothing else.
+// By a rule of the project, beside what it holds itself, a policy is given the resource's two numbers and two claims,
+// and nothing else.
 pub trait Policy {
     // The order of claims, by the resource's policy and preempt number.
     ghost order: { Self → ℕ → ℕ → Claim → Claim → Bool };

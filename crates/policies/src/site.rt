@@ -5,6 +5,8 @@ ghost use Rattle.policies.specs.Lawfuls.{order_of_lawful, layered_lawful};
 
 use crate::orders::{Discipline, NonPreemptive};
 use crate::policy::{Claim, Policy};
+use std::error::Error;
+use std::fmt;
 
 // Whether a ready task may interrupt one that has begun to run.
 #[derive(Clone, Copy, Debug, PartialEq, Eq)]
@@ -16,6 +18,14 @@ pub enum Preemption {
 // A number that no variant has.
 #[derive(Clone, Copy, Debug, PartialEq, Eq)]
 pub struct UnknownNumber(pub u32);
+
+impl fmt::Display for UnknownNumber {
+    fn fmt<W: fmt::Write>(&self, f: &mut fmt::Formatter<W>) -> fmt::Result {
+        write!(f, "no policy or preempt has number {}", self.0)
+    }
+}
+
+impl Error for UnknownNumber {}
 
 // The policy number, which is the place of the variant, from 0.
 impl From<Discipline> for u32 {

@@ -1,4 +1,5 @@
 // Draft charts at their limits, and a chart's list with a forbidden step.
+// Its loops go over numbers of entries, which index nothing.
 use charts::chart::Chart;
 use charts::draft::DraftChart;
 use sessions::cell::Cell;
@@ -16,8 +17,8 @@ fn the_64th_and_65th_step(rt: HostRuntime) {
     assert_eq!(rt; draft.add_step(0), (4, 0));
     assert_eq!(rt; draft.add_step(2), (4, 0));
     let chart = draft.fix();
-    assert_eq!(rt; chart.fits(&63), true);
-    assert_eq!(rt; chart.fits(&64), false);
+    assert!(rt; chart.fits(&63));
+    assert!(rt; !chart.fits(&64));
     assert_eq!(rt; chart.next(&63, 0), 63);
 }
 
@@ -37,7 +38,7 @@ fn the_8th_and_9th_input(rt: HostRuntime) {
     assert_eq!(rt; chart.count(), 8);
     assert_eq!(rt; chart.next(&0, 7), 1);
     assert_eq!(rt; chart.next(&1, 7), 1);
-    assert_eq!(rt; chart.is_legal(&0, 8), false);
+    assert!(rt; !chart.is_legal(&0, 8));
     assert_eq!(rt; chart.next(&0, 8), 0);
 }
 

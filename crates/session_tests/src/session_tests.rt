@@ -1,4 +1,5 @@
 // Sessions and judging at their limits.
+// Its loop goes over states, which index nothing.
 use crate::ring::Ring;
 use sessions::cell::Cell;
 use sessions::lists::{check_list, check_list_in};

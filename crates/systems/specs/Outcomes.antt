@@ -7,6 +7,7 @@ use Rattle.systems.specs.declared.outcome.Refusal.TheVariants.{NotALine, OutOfTu
 abbrev pub Outcome : Type 0
 Outcome = Result ℕ Refusal
 
+-- the number of a refusal, and its value or 0
 abbrev pub refused : Refusal → ℕ × ℕ
 refused NotALine = (1, 0)
 refused OutOfTurn = (2, 0)
@@ -28,10 +29,11 @@ refused (EndsNotBad length) = (18, length)
 refused NumberTooLarge = (19, 0)
 refused (BufferShort length) = (19, length)
 
--- number 0, and no other, is the number of an accepted call
+-- the number and the value of an outcome
 abbrev pub answer_of : Outcome → ℕ × ℕ
 answer_of (Ok value) = (0, value)
 answer_of (Err refusal) = refused refusal
 
+-- number 0, and no other, is the number of an accepted call
 abbrev pub accepts : Outcome → Bool
 accepts o = (answer_of o).0 == 0

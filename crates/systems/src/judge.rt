@@ -22,6 +22,7 @@ fn outcome<Y: System>(system: &Y, choices: &[u32]) -> Outcome
     ensures { result ≡ judged (Y.meaning system.now) choices.now }
 {
     let mut state = system.first();
+    // A loop: with `try_fold` the state, the position and the refusal would stand in one closure, no plainer.
     for (i, choice) in choices.iter().enumerate() {
         if !system.is_legal(&state, *choice) {
             return Err(Refusal::NotLegal(i));

@@ -1,6 +1,7 @@
 // What a call comes to, and the pair of plain numbers that answers it.
 ghost use Rattle.std.specs.Prelude.{◌≡◌};
-ghost use Rattle.systems.specs.Outcomes.{answer_of, refused};
+ghost use Rattle.std.specs.Result.{is_ok};
+ghost use Rattle.systems.specs.Outcomes.{answer_of, refused, accepts};
 
 // Why a call refuses, a closed list. Choices, fields, places and positions are those that docs/RULES.md names.
 #[derive(Clone, Copy, Debug, PartialEq, Eq)]
@@ -48,7 +49,8 @@ pub enum Refusal {
 // The value that the call promises, or why it refuses.
 pub type Outcome = Result<usize, Refusal>;
 
-// A number, 0 for what is accepted, and a value: what every call answers.
+// A number, 0 for what is accepted, and a value: what every call answers. Plain numbers by a rule of the project: a
+// caller lays them beside the numbers of other programs.
 pub type Answer = (u32, usize);
 
 // The number of a refusal, and its value or 0.
@@ -80,9 +82,11 @@ impl From<Refusal> for Answer {
     }
 }
 
-// The answer of a call that comes to this.
+// The answer of a call that comes to this; a function, since neither type is of this crate, and
+// the compiler refuses a `From` between them.
 pub fn answer(outcome: Outcome) -> Answer
-    ensures { result ≡ answer_of outcome }
+    ensures answer { result ≡ answer_of outcome }
+    ensures accepted { accepts outcome ≡ is_ok outcome }
 {
     match outcome {
         Ok(value) => (0, value),

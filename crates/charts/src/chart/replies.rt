@@ -21,11 +21,11 @@ impl System for Chart {
     }
 
     fn fits(&self, state: &u32) -> bool {
-        (*state as usize) < self.entries.steps
+        (*state as usize) < self.entries.steps.len()
     }
 
     fn is_bad(&self, state: &u32) -> bool {
-        self.fits(state) && self.entries.table[*state as usize].forbidden
+        self.fits(state) && self.entries.steps[*state as usize].forbidden
     }
 
     fn is_legal(&self, state: &u32, choice: u32) -> bool {
@@ -34,7 +34,7 @@ impl System for Chart {
 
     fn next(&self, state: &u32, choice: u32) -> u32 {
         if self.is_legal(state, choice) {
-            u32::from(self.entries.table[*state as usize].leads[choice as usize])
+            u32::from(self.entries.steps[*state as usize].leads[choice as usize])
         } else {
             *state
         }

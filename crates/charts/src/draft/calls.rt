@@ -1,7 +1,7 @@
 // The calls by which a chart is entered, and fixing it.
 ghost use Rattle.std.specs.Prelude.{◌≡◌};
 ghost use Rattle.systems.specs.Outcomes.{answer_of};
-ghost use Rattle.charts.specs.Entries.{begun, add_step as step_entry, with_step, add_input as input_entry, with_input, set_lead as lead_entry, with_lead, Home};
+ghost use Rattle.charts.specs.Entries.{begun, add_step as step_entry, with_step, add_input as input_entry, with_input, set_lead as lead_entry, with_lead, step_count as steps_entered, Home};
 ghost use Rattle.charts.specs.Leads.{FollowsLeads};
 
 use super::DraftChart;
@@ -19,7 +19,8 @@ impl DraftChart {
         }
     }
 
-    // Enters a step, forbidden (1) or not (0); the value is its number. Every input leads from it to itself.
+    // Enters a step, forbidden (1) or not (0); the value is its number. Every input leads from it to itself. A number
+    // and no `bool`, since any other number is refused as a field outside its range.
     pub fn add_step(&mut self, forbidden: u32) -> Answer
         ensures answer { result ≡ answer_of (step_entry self.old.entries forbidden) }
         ensures after { self.new.entries ≡ with_step self.old.entries forbidden }
@@ -46,9 +47,9 @@ impl DraftChart {
 
     // How many steps are entered.
     pub fn step_count(&self) -> usize
-        ensures { result ≡ self.now.entries.steps }
+        ensures { result ≡ steps_entered self.now.entries }
     {
-        self.entries.steps
+        self.entries.steps.len()
     }
 
     // Fixes the chart, which holds exactly the draft's entries and follows their leads; the draft is then gone.

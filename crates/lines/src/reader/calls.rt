@@ -5,7 +5,7 @@ ghost use Rattle.lines.specs.Spelling.{feed, OneSpelling};
 ghost use Rattle.lines.specs.Reading.{input_of, ahead, Reads, piece, past_piece, line_of, heard, hearing, Hears, LineExact};
 
 use super::{Guard, LineReader};
-use crate::form::line_first;
+use crate::form::{numbers_first, tag_first};
 use crate::line::Line;
 use systems::outcome::{Answer, Refusal, answer};
 
@@ -58,7 +58,11 @@ impl<'a> LineReader<'a> {
             accepted: false,
         };
         // no `?`: the borrow checker does not cover it beside a guard with a drop of its own
-        let Some((line, rest)) = line_first(ahead) else {
+        let Some((tag, rest)) = tag_first(ahead) else {
+            return None;
+        };
+        *guard.place = input.len() - rest.len();
+        let Some((line, rest)) = numbers_first(tag, rest) else {
             return None;
         };
         *guard.place = input.len() - rest.len();
@@ -66,8 +70,8 @@ impl<'a> LineReader<'a> {
         Some(line)
     }
 
-    // What is answered where this line was accepted, or none.
-    fn told(&self, line: Option<Line>) -> (Answer, Line)
+    // The answer and the line of a reading that found this line, or none.
+    fn reply(&self, line: Option<Line>) -> (Answer, Line)
         ensures answer { result.0 ≡ answer_of (hearing line self.now.place) }
         ensures line { result.1 ≡ heard line }
     {
@@ -83,7 +87,7 @@ impl<'a> LineReader<'a> {
         ensures one { OneSpelling }
     {
         let line = self.accept();
-        self.told(line)
+        self.reply(line)
     }
 
     // Passes the next line feed, or goes to the end, and answers the new place.
@@ -112,6 +116,6 @@ impl<'a> LineReader<'a> {
         if line.is_none() {
             self.skip();
         }
-        self.told(line)
+        self.reply(line)
     }
 }

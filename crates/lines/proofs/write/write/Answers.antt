@@ -14,7 +14,7 @@ returns c =
     let out = c.args.out.now in
     let o : c.write_line.result ≡ writing t ns (length out) =
     c.write_line.ensures.outcome ∙ ap (λ k. fitted (small ns) k (length out)) (sym (length_spelling t ns)) in
-    let a = c.answer.ensures ∙ ap answer_of o in
+    let a = c.answer.ensures.answer ∙ ap answer_of o in
     let w : c.write_line.new.out ≡ written t ns out =
     c.write_line.ensures.after ∙ ap (λ p. cond (accepts p) (over (spelling t ns) out) out) o in
     record { answer = a; after = w; back = reads_back t ns out _ _ a w }

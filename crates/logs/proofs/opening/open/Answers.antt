@@ -14,7 +14,7 @@ loop-line-preserved c = λ cells.
     let noted = c.in_ok-note.ensures.log ∙ ap (λ v. vec_items v ++ line_spelled (answered c.tag-tag.result c.answer.result)) c.in-Some.ensures.log in
     ap (λ r. vec_items c.note.new.self.log ++ spelled (answers cells Opening (lines_ahead r))) c.in_ok-note.ensures.reader
     ∙ ap (λ t. vec_items c.note.new.self.log ++ spelled (answers cells t (lines_ahead c.next_line.new.self.reader))) (sym (begins_none c.kind_of-kind.result (sym c.if-is_some.ensures)))
-    ∙ open_more cells out c.in-Some.ensures.lines c.tag-tag.ensures c.kind_of-kind.ensures (c.answer.ensures ∙ ap answer_of c.outcome.ensures) noted
+    ∙ open_more cells out c.in-Some.ensures.lines c.tag-tag.ensures c.kind_of-kind.ensures (c.answer.ensures.answer ∙ ap answer_of c.outcome.ensures) noted
     ∙ c.loop-line.invariant cells
 
 pub returns-then-is_some : goal.returns-then-is_some
@@ -23,5 +23,5 @@ returns-then-is_some c = λ cells.
     let noted = c.in_ok-note.ensures.log ∙ ap (λ v. vec_items v ++ line_spelled (answered c.tag-tag.result c.answer.result)) c.in-Some.ensures.log in
     ap (λ r. vec_items c.note.new.self.log ++ spelled (answers_left cells c.kind_of-kind.result (lines_ahead r))) c.in_ok-note.ensures.reader
     ∙ ap (λ ls. vec_items c.note.new.self.log ++ spelled ls) (left_some cells c.kind_of-kind.result (lines_ahead c.next_line.new.self.reader) (sym c.if-is_some.ensures))
-    ∙ open_more cells out c.in-Some.ensures.lines c.tag-tag.ensures c.kind_of-kind.ensures (c.answer.ensures ∙ ap answer_of c.outcome.ensures) noted
+    ∙ open_more cells out c.in-Some.ensures.lines c.tag-tag.ensures c.kind_of-kind.ensures (c.answer.ensures.answer ∙ ap answer_of c.outcome.ensures) noted
     ∙ c.loop-line.invariant cells

@@ -8,5 +8,5 @@ pub returns : goal.returns
 returns g c =
     let m = g.Y.System.meaning c.args.system.now in
     let cs = c.args.choices.now in
-    let e = c.answer.ensures ∙ ap answer_of c.outcome.ensures in
+    let e = c.answer.ensures.answer ∙ ap answer_of c.outcome.ensures in
     record { answer = e; exact = judges m cs c.answer.result e; why = says_why m cs c.answer.result e }

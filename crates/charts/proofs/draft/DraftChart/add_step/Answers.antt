@@ -7,4 +7,4 @@ use Rattle.charts.proofs.draft.DraftChart.add_step.Goals as goal
 pub invariant_of-self : goal.invariant_of-self
 invariant_of-self c =
     let d = c.args.self.now in
-    record { valid = subst Valid (sym c.add_step.ensures.after) (valid_step d.entries c.args.forbidden c.add_step.ensures.sized d.valid) }
+    record { valid = subst Valid (sym c.add_step.ensures.after) (valid_step d.entries c.args.forbidden d.valid) }

@@ -6,4 +6,4 @@ use Rattle.lines.proofs.reader.LineReader.read.Goals as goal
 pub returns : goal.returns
 returns c =
     let a = c.accept-line.ensures in
-    record { reads = reads c.args.self.now _ _ _ c.accept-line.result a.input a.line a.place c.told.ensures.answer c.told.ensures.line; one = one_spelling }
+    record { reads = reads c.args.self.now _ _ _ c.accept-line.result a.input a.line a.place c.reply.ensures.answer c.reply.ensures.line; one = one_spelling }

@@ -8,7 +8,7 @@ pub returns : goal.returns
 returns c =
     let l = c.args.self.now.layout in
     let e = c.enter_resource.ensures in
-    let answer = c.answer.ensures ∙ ap answer_of e.outcome in
+    let answer = c.answer.ensures.answer ∙ ap answer_of e.outcome in
     record {
       answer = answer;
       after = e.after;

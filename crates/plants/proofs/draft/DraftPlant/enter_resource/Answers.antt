@@ -1,5 +1,5 @@
 -- One resource more leaves the draft valid.
-use Rattle.std.proofs.Common.{◌≡◌, sym, ap, ◌∙◌, refl}
+use Rattle.std.proofs.Common.{sym, ap, ◌∙◌}
 use Rattle.systems.specs.Outcomes.{accepts}
 use Rattle.plants.specs.Layouts.{valid}
 use Rattle.plants.specs.Entered.{valid_parts, resource_room, valid_with_resource}
@@ -10,4 +10,4 @@ invariant_of-self c =
     let l = c.args.self.now.layout in
     let v = valid_parts l c.args.self.now.valid in
     let room = resource_room l c.args.policy c.args.preempt v (ap accepts (sym c.check_resource.ensures ∙ c.in_ok-number.was)) in
-    record { valid = ap valid c.add_resource.ensures ∙ valid_with_resource l _ v room }
+    record { valid = ap (λ rs. valid (record { resources = record { items = rs }; tasks = l.tasks })) c.push.ensures.items ∙ valid_with_resource l _ v room }

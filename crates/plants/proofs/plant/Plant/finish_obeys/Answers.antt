@@ -1,10 +1,10 @@
 -- The rule is applied to the task's own bit; what its run is after growth matters only where it runs, and a run past all
 -- times is as good as any other such run.
-use Rattle.std.proofs.Common.{◌≡◌, ℕ, ◌+◌, ◌<◌, ◌≤◌, Bool, true, false, min, sym, refl, ap, ◌∙◌, ⊎_elim, arith}
+use Rattle.std.proofs.Common.{◌≡◌, ℕ, ◌+◌, ◌<◌, ◌≤◌, Bool, true, false, min, slice_index_or, sym, refl, ap, ◌∙◌, ⊎_elim, arith}
 use Rattle.std.proofs.lemmas.Bool.{ne_eqb, not_from_false, cases_lt}
 use Rattle.std.proofs.lemmas.Bool.Decides.{nat_tests}
 use Rattle.plants.specs.Bits.{bit}
-use Rattle.plants.specs.Layouts.{task_at, in_ranges}
+use Rattle.plants.specs.Layouts.{task_at, no_task, in_ranges, task_count}
 use Rattle.plants.specs.Limits.{most_ticks}
 use Rattle.plants.specs.Records.{at, grown_by}
 use Rattle.plants.specs.Entered.{valid_parts}
@@ -37,18 +37,19 @@ not_worn : (t : Task) (runs : Bool) (m : ℕ) → (m ≡ t.worst → ⊥) → fi
 not_worn t true m n = not_from_false _ (ne_eqb _ _ n)
 not_worn t false m n = refl
 
-pub returns-then-run-self : goal.returns-then-run-self
+pub returns-then-run-task : goal.returns-then-run-task
 unfolding finish_obeys
-returns-then-run-self g c =
+returns-then-run-task g c =
     let l = c.args.self.now.layout in
     let i = c.args.i in
     let r = at c.args.state.now.records i in
     let runs = task_runs (g.P.Policy.order c.args.self.now.policy) l c.args.state.now.records i in
     let v = (within l (valid_parts l c.args.self.now.valid) i c.requires).ranges in
-    let bit_clear = sym c.has_bit-finished.ensures ∙ c.if-not-finished.true in
+    let bit_clear = ap (λ n. bit c.args.choice (n + i)) (sym c.len.ensures.value) ∙ sym c.has_bit-finished.ensures ∙ c.if-not-finished.true in
+    let worst = ap (λ ts. (slice_index_or ts i no_task).worst) c.deref.ensures.0 in
     sym (ap (finish_in (task_at l i) runs (grown_by runs r).run) bit_clear
     ∙ sym (cut_off (task_at l i) runs r c.saturating_add-run.result false v c.saturating_add-run.ensures)
-    ∙ not_worn (task_at l i) runs c.saturating_add-run.result c.if-run-self.true)
+    ∙ not_worn (task_at l i) runs c.saturating_add-run.result (λ e. c.if-run-task.true (e ∙ sym worst)))
 
 pub returns : goal.returns
 unfolding finish_obeys
@@ -59,8 +60,9 @@ returns g c =
     let runs = task_runs (g.P.Policy.order c.args.self.now.policy) l c.args.state.now.records i in
     let v = (within l (valid_parts l c.args.self.now.valid) i c.requires).ranges in
     let run = c.saturating_add-run.result in
-    let finished = bit c.args.choice (l.count + i) in
+    let finished = bit c.args.choice (task_count l + i) in
     c.may_finish.ensures
-    ∙ ap (λ b. finish_in (task_at l i) c.runs.result run b) c.has_bit-finished.ensures
+    ∙ ap (λ ts. finish_in (slice_index_or ts i no_task) c.runs.result run c.has_bit-finished.result) c.deref.ensures.0
+    ∙ ap (λ b. finish_in (task_at l i) c.runs.result run b) (c.has_bit-finished.ensures ∙ ap (λ n. bit c.args.choice (n + i)) c.len.ensures.value)
     ∙ ap (λ b. finish_in (task_at l i) b run finished) c.runs.ensures
     ∙ cut_off (task_at l i) runs r run finished v c.saturating_add-run.ensures

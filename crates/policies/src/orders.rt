@@ -1,11 +1,24 @@
 // The orders of claims by one figure, and the layer that keeps a begun task running.
 ghost use Rattle.std.specs.Prelude.{◌≡◌};
-ghost use Rattle.policies.specs.Orders.{order_of, begun_first};
+ghost use Rattle.policies.specs.Orders.{ranks, order_of, begun_first};
 ghost use Rattle.std.proofs.Common.{rules};
 ghost use Rattle.policies.specs.Lawfuls.{order_of_lawful};
 
 use crate::policy::{Claim, Policy};
-use std::cmp::Reverse;
+
+// Whether the task numbered `one`, with the figure `mine`, goes before the task `other`, with `theirs`. Three plain
+// tests: as one comparison of pairs it takes twice the instructions, in the innermost loop of a tick.
+fn ranks_first(one: u32, other: u32, mine: u32, theirs: u32) -> bool
+    ensures { result ≡ ranks one other mine theirs }
+{
+    if one == other {
+        false
+    } else if mine == theirs {
+        one < other
+    } else {
+        mine > theirs
+    }
+}
 
 // Which figure of two claims decides which of them goes first.
 #[derive(Clone, Copy, Debug, PartialEq, Eq)]
@@ -25,12 +38,11 @@ impl Policy for Discipline {
     ghost lawful = { λ discipline _ _. order_of_lawful discipline };
 
     fn before(&self, _policy: u32, _preempt: u32, a: &Claim, b: &Claim) -> bool {
-        let (mine, theirs) = match self {
-            Discipline::Fifo => (a.waited, b.waited),
-            Discipline::FixedPriority => (a.priority, b.priority),
-            Discipline::EarliestDeadline => (b.left, a.left),
-        };
-        a.task != b.task && (mine, Reverse(a.task)) > (theirs, Reverse(b.task))
+        match self {
+            Discipline::Fifo => ranks_first(a.task, b.task, a.waited, b.waited),
+            Discipline::FixedPriority => ranks_first(a.task, b.task, a.priority, b.priority),
+            Discipline::EarliestDeadline => ranks_first(a.task, b.task, b.left, a.left),
+        }
     }
 }
 

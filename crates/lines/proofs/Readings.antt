@@ -32,9 +32,6 @@ peel (n ∷ ns) (m ∷ ms) bs rest e =
 small_drop : (k : ℕ) (ns : List ℕ) → small ns ≡ true → small (drop k ns) ≡ true
 small_drop k ns h = (and_parts (small (take k ns)) (small (drop k ns)) (sym (list_all-append _ (take k ns) (drop k ns)) ∙ ap small (take-append-drop k ns) ∙ h)).1
 
-pub small_push : (ns : List ℕ) (n : ℕ) → small ns ≡ true → n ≤ largest → small (ns ++ n ∷ []) ≡ true
-small_push ns n h l = list_all-append _ ns (n ∷ []) ∙ and_from (small ns) (small (n ∷ [])) h (and_from (leb n largest) true (le-leb n largest l) refl)
-
 -- no tag allows more than the most
 pub counts_few : (t : Tag) (n : ℕ) → counts t n ≡ true → n ≤ most
 counts_few t n h = grind (arith, nat_tests)
@@ -51,6 +48,10 @@ not_line t all ns bs e h ms rest f =
     let l : length ns + length (drop (length ns) ms) ≡ length ms = omega (arith, length-drop (length ns) ms, p.0) in
     h (drop (length ns) ms) rest (ap (counts t) l ∙ f.0.0, small_drop (length ns) ms f.0.1, p.1)
 
+-- a line feed begins no column
+pub not_column : (bs rest : List ℕ) → bs ≡ feed ∷ rest → (n : ℕ) (left : List ℕ) → ColumnFirst bs n left → ⊥
+not_column bs rest e n left f = not_feed n left rest (sym f.1 ∙ e)
+
 -- the ways in which bytes do not go on: with a column after the most numbers, or with neither a column nor a line feed that the count allows
 module _ (t : Tag) (k : ℕ) (bs : List ℕ) where
   pub stop_full : (n : ℕ) (left : List ℕ) → bs ≡ column n ++ left → k ≡ most → (zs rest : List ℕ) → GoesOn t k bs zs rest → ⊥
@@ -65,11 +66,6 @@ module _ (t : Tag) (k : ℕ) (bs : List ℕ) where
       h rest y.2 (ap (counts t) (sym e) ∙ y.0)
   stop_column g h (z ∷ zs) rest y =
       g z (columns zs ++ (feed ∷ rest)) (leb-true z largest (and_parts (leb z largest) (small zs) y.1).0, y.2)
-
--- one more column was read
-pub column_next : (all ns bs rest : List ℕ) (n : ℕ) → all ≡ columns ns ++ bs → bs ≡ column n ++ rest → all ≡ columns (ns ++ n ∷ []) ++ rest
-column_next all ns bs rest n e q =
-    e ∙ ap (λ x. columns ns ++ x) q ∙ sym (append_assoc (columns ns) (column n) rest) ∙ ap (λ x. x ++ rest) (sym (columns_push ns n))
 
 -- the whole line: there is none with no tag or no numbers after the tag, and one with both
 pub no_tag : (bs : List ℕ) → ((t : Tag) (rest : List ℕ) → TagFirst bs t rest → ⊥) → (u : Tag) (ms : List ℕ) → Begins bs u ms → ⊥

@@ -1,8 +1,8 @@
 // The reader's calls.
-ghost use Rattle.std.specs.Prelude.{◌≡◌, ◌≤◌, length, Decides, Ok, position, ◌==◌, is_some, if◌then◌else◌};
+ghost use Rattle.std.specs.Prelude.{◌≡◌, ◌≤◌, length, Decides, Ok, Some, None, position, ◌==◌, if◌then◌else◌};
 ghost use Rattle.systems.specs.Outcomes.{answer_of};
 ghost use Rattle.lines.specs.Spelling.{feed, OneSpelling};
-ghost use Rattle.lines.specs.Reading.{input_of, ahead, Reads, piece, past_piece, line_of, heard, hearing, Hears, LineExact};
+ghost use Rattle.lines.specs.Reading.{input_of, ahead, Reads, piece, past_piece, line_of, Hears, LineExact};
 
 use super::{Guard, LineReader};
 use crate::form::{numbers_first, tag_first};
@@ -43,11 +43,12 @@ impl<'a> LineReader<'a> {
         &self.input[self.place..]
     }
 
-    // Passes the line at the place and says which it is; on every way out but acceptance the place goes back.
-    fn accept(&mut self) -> Option<Line>
+    // Passes the line at the place, which is then in `line`, and says whether there is one; on every way out but acceptance
+    // the place goes back. The line is lent, since to hand one on copies it at each step.
+    fn accept(&mut self, line: &mut Line) -> bool
         ensures input { input_of self.new ≡ input_of self.old }
-        ensures line { result ≡ line_of (piece (ahead self.old)) }
-        ensures place { self.new.place ≡ (if is_some result then past_piece self.old else self.old.place) }
+        ensures line { line_of (piece (ahead self.old)) ≡ (if result then Some line.new else None) }
+        ensures place { self.new.place ≡ (if result then past_piece self.old else self.old.place) }
     {
         let input = self.input;
         let ahead = self.ahead();
@@ -59,26 +60,16 @@ impl<'a> LineReader<'a> {
         };
         // no `?`: the borrow checker does not cover it beside a guard with a drop of its own
         let Some((tag, rest)) = tag_first(ahead) else {
-            return None;
+            return false;
         };
         *guard.place = input.len() - rest.len();
-        let Some((line, rest)) = numbers_first(tag, rest) else {
-            return None;
+        *line = Line::new(tag);
+        let Some(rest) = numbers_first(line, rest) else {
+            return false;
         };
         *guard.place = input.len() - rest.len();
         guard.accepted = true;
-        Some(line)
-    }
-
-    // The answer and the line of a reading that found this line, or none.
-    fn reply(&self, line: Option<Line>) -> (Answer, Line)
-        ensures answer { result.0 ≡ answer_of (hearing line self.now.place) }
-        ensures line { result.1 ≡ heard line }
-    {
-        match line {
-            Some(line) => (answer(Ok(self.place)), line),
-            None => (Refusal::NotALine.into(), Line::none()),
-        }
+        true
     }
 
     // Reads a line, and answers the place after it; where there is none the place stays.
@@ -86,8 +77,12 @@ impl<'a> LineReader<'a> {
         ensures reads { Reads self.old self.new result.0 result.1.0 result.1.1 }
         ensures one { OneSpelling }
     {
-        let line = self.accept();
-        self.reply(line)
+        let mut line = Line::none();
+        if self.accept(&mut line) {
+            (answer(Ok(self.place)), line)
+        } else {
+            (Refusal::NotALine.into(), Line::none())
+        }
     }
 
     // Passes the next line feed, or goes to the end, and answers the new place.
@@ -112,10 +107,11 @@ impl<'a> LineReader<'a> {
         ensures hears { Hears self.old self.new result.0 result.1 }
         ensures exact { LineExact }
     {
-        let line = self.accept();
-        if line.is_none() {
+        let mut line = Line::none();
+        if !self.accept(&mut line) {
             self.skip();
+            return (Refusal::NotALine.into(), Line::none());
         }
-        self.reply(line)
+        (answer(Ok(self.place)), line)
     }
 }

@@ -3,7 +3,8 @@ use Rattle.std.proofs.Common.{◌≡◌, ℕ, ◌<◌, Bool, true, not, ◌&&◌
 use Rattle.std.proofs.lemmas.Bool.{and_parts, and_from, eqb-true, eq-eqb, cases_eq, both_ways}
 use Rattle.policies.specs.Lawful.{Lawful}
 use Rattle.plants.specs.Below.{first_below}
-use Rattle.plants.specs.Layouts.{task_at, no_resource, task_count}
+use Rattle.plants.specs.Unused.{no_resource}
+use Rattle.plants.specs.Layouts.{task_at, task_count}
 use Rattle.plants.specs.Records.{is_ready}
 use Rattle.plants.specs.Tick.{Order, goes_before, claim_of, task_runs, runs_on}
 use Rattle.plants.specs.Rules.{record_at, Runs, NamesRunning}
@@ -17,7 +18,7 @@ use Rattle.plants.proofs.Firsts.{First, first_of}
 
 module _ (order : Order) (law : (policy preempt : ℕ) → Lawful (order policy preempt)) (l : Layout) (s : PlantState) (ρ : ℕ) where
   numbers : Resource
-  numbers = get_or l.resources.items ρ no_resource
+  numbers = get_or l.resources ρ no_resource
 
   -- the order of the tasks' claims on the resource ρ
   lt : ℕ → ℕ → Bool
@@ -39,7 +40,7 @@ module _ (order : Order) (law : (policy preempt : ℕ) → Lawful (order policy 
   lt_is : (i j : ℕ) → (task_at l i).resource ≡ ρ → goes_before order l s.records i j ≡ lt i j
   unfolding lt numbers
   lt_is i j e =
-      ap (λ q. order (get_or l.resources.items q no_resource).policy (get_or l.resources.items q no_resource).preempt (claim_of l s.records i) (claim_of l s.records j)) e
+      ap (λ q. order (get_or l.resources q no_resource).policy (get_or l.resources q no_resource).preempt (claim_of l s.records i) (claim_of l s.records j)) e
 
   on_parts : (i : ℕ) → on i ≡ true → ((record_at s i).phase ≡ Ready) × ((task_at l i).resource ≡ ρ)
   unfolding on

@@ -8,7 +8,8 @@ use Rattle.std.proofs.lemmas.Bool.{and_from, and_parts, leb-true, ltb-true, le-l
 use Rattle.systems.specs.Outcomes.{accepts}
 use Rattle.plants.specs.Limits.{most_resources, most_tasks}
 use Rattle.plants.specs.Below.{all_below}
-use Rattle.plants.specs.Layouts.{valid, valid_at, task_at, in_ranges, no_task, with_task, entered, with_resource, resource_count, task_count}
+use Rattle.plants.specs.Unused.{no_task}
+use Rattle.plants.specs.Layouts.{valid, valid_at, task_at, in_ranges, with_task, entered, with_resource, resource_count, task_count}
 use Rattle.plants.specs.Entries.{resource_comes_to}
 use Rattle.plants.specs.Entering.{EntersTask}
 use Rattle.plants.specs.declared.layout.TaskEntry.{TaskEntry}
@@ -43,16 +44,16 @@ module _ (l : Layout) (e : TaskEntry) (v : Valid l) (enters : task_count l ≤ m
 
   valid_new : valid_at (with_task l (entered e)) (task_count l) ≡ true
   unfolding valid_at
-  valid_new = rw (get_or_push l.tasks.items (entered e) no_task (task_count l) refl) (and_from _ _ in_range (lt-ltb _ _ ok.resource))
+  valid_new = rw (get_or_push l.tasks (entered e) no_task (task_count l) refl) (and_from _ _ in_range (lt-ltb _ _ ok.resource))
 
   valid_old : (k : ℕ) → k < task_count l → valid_at (with_task l (entered e)) k ≡ valid_at l k
   unfolding valid_at
-  valid_old k lt = rw (get_or_append_left l.tasks.items (entered e ∷ []) no_task k lt)
+  valid_old k lt = rw (get_or_append_left l.tasks (entered e ∷ []) no_task k lt)
 
   pub valid_with_task : valid (with_task l (entered e)) ≡ true
   valid_with_task =
       let l' = with_task l (entered e) in
-      let one_more = length-append l.tasks.items (entered e ∷ []) in
+      let one_more = length-append l.tasks (entered e ∷ []) in
       let old = all_from (valid_at l') (task_count l) (λ k lt. valid_old k lt ∙ v.tasks k lt) in
       valid_from l' (record {
         resources_few = v.resources_few;
@@ -68,12 +69,12 @@ wider_at : (l : Layout) (r : Resource) (k : ℕ) → valid_at l k ≡ true → v
 unfolding valid_at
 wider_at l r k h =
     let p = and_parts (in_ranges (task_at l k)) (nat_lt (task_at l k).resource (resource_count l)) h in
-    and_from _ _ p.0 (lt-ltb _ _ (omega (arith, length-append l.resources.items (r ∷ []), ltb-true _ _ p.1)))
+    and_from _ _ p.0 (lt-ltb _ _ (omega (arith, length-append l.resources (r ∷ []), ltb-true _ _ p.1)))
 
 pub valid_with_resource : (l : Layout) (r : Resource) → Valid l → resource_count l < most_resources → valid (with_resource l r) ≡ true
 valid_with_resource l r v lt =
     valid_from (with_resource l r) (record {
-      resources_few = omega (arith, length-append l.resources.items (r ∷ []));
+      resources_few = omega (arith, length-append l.resources (r ∷ []));
       tasks_few = v.tasks_few;
       tasks = λ k kl. wider_at l r k (v.tasks k kl);
     })

@@ -4,47 +4,32 @@ use Rattle.policies.specs.Classes.{priorities}
 use Rattle.plants.specs.Limits.{most_ticks, most_resources, most_tasks}
 use Rattle.plants.specs.Bits.{bit}
 use Rattle.plants.specs.Below.{all_below}
+use Rattle.plants.specs.Unused.{no_task, no_resource}
 use Rattle.plants.specs.declared.layout.Resource.{Resource}
 use Rattle.plants.specs.declared.layout.Task.{Task}
 use Rattle.plants.specs.declared.layout.TaskEntry.{TaskEntry}
 use Rattle.plants.specs.declared.layout.Layout.{Layout}
 
-abbrev pub no_task : Task
-no_task = record {
-  offset = 0;
-  least = 0;
-  greatest = 0;
-  best = 0;
-  worst = 0;
-  deadline = 0;
-  priority = 0;
-  resource = 0;
-  needs = 0;
-}
-
-abbrev pub no_resource : Resource
-no_resource = record { policy = 0; preempt = 0 }
-
 -- no entry
 abbrev pub nothing : Layout
 nothing = record {
-  resources = record { items = [] };
-  tasks = record { items = [] };
+  resources = [];
+  tasks = [];
 }
 
 -- how many resources and tasks were entered
 abbrev pub resource_count : Layout → ℕ
-resource_count l = length l.resources.items
+resource_count l = length l.resources
 
 abbrev pub task_count : Layout → ℕ
-task_count l = length l.tasks.items
+task_count l = length l.tasks
 
 abbrev pub task_at : Layout → ℕ → Task
-task_at l i = slice_index_or l.tasks.items i no_task
+task_at l i = slice_index_or l.tasks i no_task
 
 -- the resource that task i is on
 abbrev pub resource_of : Layout → ℕ → Resource
-resource_of l i = slice_index_or l.resources.items (task_at l i).resource no_resource
+resource_of l i = slice_index_or l.resources (task_at l i).resource no_resource
 
 abbrev pub is_within : ℕ → ℕ → ℕ → Bool
 is_within low high x = nat_le low x && nat_le x high
@@ -71,12 +56,12 @@ entered e = record {
 abbrev pub with_task : Layout → Task → Layout
 with_task l t = record {
   resources = l.resources;
-  tasks = record { items = l.tasks.items ++ t ∷ [] };
+  tasks = l.tasks ++ t ∷ [];
 }
 
 abbrev pub with_resource : Layout → Resource → Layout
 with_resource l r = record {
-  resources = record { items = l.resources.items ++ r ∷ [] };
+  resources = l.resources ++ r ∷ [];
   tasks = l.tasks;
 }
 

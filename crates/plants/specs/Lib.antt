@@ -1,6 +1,7 @@
 pub mod Limits
 pub mod Bits
 pub mod Below
+pub mod Unused
 pub mod Layouts
 pub mod Entries
 pub mod Entering

@@ -5,7 +5,8 @@ use Rattle.std.proofs.Common.{◌∙◌, subst}
 use native.Mathlib.Omega.{arith}
 use native.Mathlib.Numerals.{unary_clauses}
 use Rattle.std.specs.List.{flat_map}
-use Rattle.std.proofs.lemmas.List.{ext_get_or, get_or-replicate, get_or-take, length-take-le}
+use Rattle.std.proofs.lemmas.List.FromFn.{get_or-map-range_with_len, length-map-range_with_len}
+use Rattle.std.proofs.lemmas.List.{ext_get_or, get_or-replicate, length-take-le}
 use Rattle.std.proofs.lemmas.List.Concat.{get_or-flat_map}
 use Rattle.std.proofs.lemmas.Option.{cond_some}
 use Rattle.std.proofs.lemmas.Bool.{and_parts, and_from, cond-true, eq-eqb, eqb-true, le-leb, leb-true}
@@ -18,7 +19,7 @@ use Rattle.plants.specs.Records.{phase_number, phase_of, is_phase, blank, first_
 use Rattle.plants.specs.Tick.{Order, state_fits}
 use Rattle.plants.specs.Rules.{Fits}
 use Rattle.plants.specs.Meanings.{plant_meaning}
-use Rattle.plants.specs.Numbers.{per_task, record_numbers, state_numbers, record_of, is_phase_at, is_state, state_with, state_of}
+use Rattle.plants.specs.Numbers.{per_task, record_numbers, first_records, state_numbers, record_of, is_phase_at, is_state, state_with, state_of}
 use Rattle.plants.specs.declared.layout.Layout.{Layout}
 use Rattle.plants.specs.declared.state.Phase.{Phase}
 use Rattle.plants.specs.declared.state.Phase.TheVariants.{Before, Done, Held, Ready}
@@ -63,22 +64,25 @@ length_fours : (rs : List Record) → length (flat_map record_numbers rs) ≡ pe
 length_fours [] = refl
 length_fours (r ∷ rs) = omega (arith, length_fours rs)
 
-module _ (rs : List Record) (n : ℕ) (enough : n ≤ length rs) where
+module _ (rs : List Record) (n : ℕ) where
+  length_first : length (first_records n rs) ≡ n
+  length_first = length-map-range_with_len (at rs) 0 n
+
   length_numbers : length (state_numbers n rs) ≡ per_task * n
   unfolding state_numbers
-  length_numbers = omega (arith, length_fours (take n rs), length-take-le n rs enough)
+  length_numbers = omega (arith, length_fours (first_records n rs), length_first)
 
   -- number j of record i stands at place 4 * i + j
   number_there : (i j k : ℕ) → i < n → j < per_task → k ≡ per_task * i + j → slice_index (state_numbers n rs) k ≡ slice_index (record_numbers (at rs i)) j
   unfolding state_numbers
   number_there i j k h b e =
-      let xs = take n rs in
+      let xs = first_records n rs in
       let front : length (flat_map record_numbers (take i xs)) ≡ per_task * i =
-      omega (arith, length_fours (take i xs), length-take-le i xs (omega (arith, length-take-le n rs enough)), length-take-le n rs enough) in
+      omega (arith, length_fours (take i xs), length-take-le i xs (omega (arith, length_first))) in
       let place : k ≡ length (flat_map record_numbers (take i xs)) + j = omega arith in
       ap (λ q. slice_index (flat_map record_numbers xs) q) place
-      ∙ get_or-flat_map record_numbers xs i j blank 0 (omega (arith, length-take-le n rs enough)) b
-      ∙ ap (λ r. slice_index (record_numbers r) j) (get_or-take n rs i blank h)
+      ∙ get_or-flat_map record_numbers xs i j blank 0 (omega (arith, length_first)) b
+      ∙ ap (λ r. slice_index (record_numbers r) j) (get_or-map-range_with_len (at rs) 0 n i i blank h (omega arith))
 
   record_back : (i : ℕ) → i < n → record_of (state_numbers n rs) i ≡ at rs i
   record_back i h =
@@ -126,14 +130,13 @@ unfolding state_with is_phase_at
 numbers_back n ns few p =
     let rs = (state_with n ns).records in
     let made = each_made (λ i r. record_of ns i) first_state.records n few in
-    let enough : n ≤ length rs = omega (arith, made.long) in
-    ext_get_or 0 ns (state_numbers n rs) (p.long ∙ sym (length_numbers rs n enough))
+    ext_get_or 0 ns (state_numbers n rs) (p.long ∙ sym (length_numbers rs n))
     (λ k lt.
     let low : k / per_task < n = omega (arith, p.long) in
     let split : k ≡ per_task * (k / per_task) + k % per_task = omega arith in
     record_number ns (k / per_task) (k % per_task) k split (omega arith) (p.phases (k / per_task) low)
     ∙ ap (λ (r : Record). slice_index (record_numbers r) (k % per_task)) (sym (made.entered (k / per_task) low))
-    ∙ sym (number_there rs n enough (k / per_task) (k % per_task) k low (omega arith) split))
+    ∙ sym (number_there rs n (k / per_task) (k % per_task) k low (omega arith) split))
 
 -- The law at a state that fits
 
@@ -141,19 +144,16 @@ module _ (l : Layout) (v : Valid l) (s : PlantState) (f : state_fits l s.records
   fitting : Fits l s
   fitting = (fits_decides l s v.tasks_few).0 f
 
-  enough_records : task_count l ≤ length s.records
-  enough_records = omega (arith, fitting.long, v.tasks_few)
-
   few_numbers : length (state_numbers (task_count l) s.records) ≤ per_task * most_tasks
-  few_numbers = omega (arith, length_numbers s.records (task_count l) enough_records, v.tasks_few)
+  few_numbers = omega (arith, length_numbers s.records (task_count l), v.tasks_few)
 
   numbers_small : small (state_numbers (task_count l) s.records) ≡ true
   unfolding state_numbers
   numbers_small =
-      small_numbers (take (task_count l) s.records)
+      small_numbers (first_records (task_count l) s.records)
       (λ k lt.
-      let below : k < task_count l = omega (arith, length-take-le (task_count l) s.records enough_records) in
-      subst Low (sym (get_or-take (task_count l) s.records k blank below)) (low_one l v s.records f k below))
+      let below : k < task_count l = omega (arith, length_first s.records (task_count l)) in
+      subst Low (sym (get_or-map-range_with_len (at s.records) 0 (task_count l) k k blank below (omega arith))) (low_one l v s.records f k below))
 
   restores : state_of (task_count l) (state_numbers (task_count l) s.records) ≡ Some s
   unfolding state_with
@@ -163,10 +163,10 @@ module _ (l : Layout) (v : Valid l) (s : PlantState) (f : state_fits l s.records
       let same : s.records ≡ each n (λ i r. record_of ns i) first_state.records =
       made_each (λ i r. record_of ns i) first_state.records n s.records (record {
         long = fitting.long;
-        entered = λ k lt. sym (record_back s.records n enough_records k lt);
+        entered = λ k lt. sym (record_back s.records n k lt);
         others = λ k lt le. fitting.others k lt le ∙ sym (get_or-replicate most_tasks k blank blank lt);
       }) in
-      restored_proper n ns (record { long = length_numbers s.records n enough_records; phases = phase_there s.records n enough_records })
+      restored_proper n ns (record { long = length_numbers s.records n; phases = phase_there s.records n })
       ∙ ap (λ (rs : List Record). Some (record { records = rs })) (sym same)
 
 pub plant_numbered : (order : Order) (l : Layout) → Valid l

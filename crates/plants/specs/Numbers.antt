@@ -1,8 +1,8 @@
 -- A plant's state as numbers: four for each entered task, in the order of the tasks.
-use Rattle.std.specs.Prelude.{ℕ, ◌+◌, ◌*◌, Bool, cond, ◌&&◌, List, [], ◌∷◌, length, take, Some, None, Option, ◌==◌, slice_index}
-use Rattle.std.specs.List.{flat_map}
+use Rattle.std.specs.Prelude.{ℕ, ◌+◌, ◌*◌, Bool, cond, ◌&&◌, List, [], ◌∷◌, map, length, Some, None, Option, ◌==◌, slice_index}
+use Rattle.std.specs.List.{flat_map, range_with_len}
 use Rattle.plants.specs.Below.{all_below}
-use Rattle.plants.specs.Records.{phase_number, phase_of, is_phase, first_state, each}
+use Rattle.plants.specs.Records.{phase_number, phase_of, is_phase, first_state, at, each}
 use Rattle.plants.specs.declared.state.Record.{Record}
 use Rattle.plants.specs.declared.state.PlantState.{PlantState}
 
@@ -14,9 +14,13 @@ per_task = 4
 abbrev pub record_numbers : Record → List ℕ
 record_numbers r = phase_number r.phase ∷ r.since ∷ r.run ∷ r.waited ∷ []
 
+-- the first n records; a record that is not there is four zeros
+abbrev pub first_records : ℕ → List Record → List Record
+first_records n rs = map (at rs) (range_with_len 0 n)
+
 -- the numbers of the first n records, where the four of each follow those of the one before
 unfoldable pub state_numbers : ℕ → List Record → List ℕ
-state_numbers n rs = flat_map record_numbers (take n rs)
+state_numbers n rs = flat_map record_numbers (first_records n rs)
 
 -- the record that the i-th four numbers are
 abbrev pub record_of : List ℕ → ℕ → Record

@@ -12,9 +12,9 @@ ghost use Rattle.plants.specs.Entering.{EntersResource, EntersTask, EnteredExact
 
 use crate::bits::has_bit;
 use crate::draft::DraftPlant;
+use crate::fixed_list::FixedList;
 use crate::layout::{Layout, MOST_TICKS, Resource, Task, TaskEntry};
 use crate::plant::Plant;
-use arrayvec::ArrayVec;
 use policies::classes::priority;
 use policies::orders::Discipline;
 use policies::policy::Policy;
@@ -33,8 +33,8 @@ impl DraftPlant {
     {
         DraftPlant {
             layout: Layout {
-                resources: ArrayVec::new(),
-                tasks: ArrayVec::new(),
+                resources: FixedList::new(),
+                tasks: FixedList::new(),
             },
         }
     }

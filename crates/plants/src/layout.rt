@@ -1,5 +1,7 @@
 // What a plant is made of.
-use arrayvec::ArrayVec;
+ghost use Rattle.plants.specs.Unused.{no_resource, no_task};
+
+use crate::fixed_list::{FixedList, Unused};
 
 // The greatest number of ticks that a field of a task may be.
 pub const MOST_TICKS: u32 = 255;
@@ -14,6 +16,14 @@ pub const MOST_TASKS: usize = 8;
 pub struct Resource {
     pub policy: u32,
     pub preempt: u32,
+}
+
+impl Unused for Resource {
+    ghost filler = { no_resource };
+
+    fn unused() -> Resource {
+        Resource::default()
+    }
 }
 
 // A task that was entered, with the priority of its class.
@@ -35,6 +45,14 @@ pub struct Task {
     pub needs: u32,
 }
 
+impl Unused for Task {
+    ghost filler = { no_task };
+
+    fn unused() -> Task {
+        Task::default()
+    }
+}
+
 // A task's nine fields as they are entered: a class stands in the place of the priority. A struct of its own: with the
 // other eight fields in one that both hold, the nine would no longer stand in their order in one literal.
 #[derive(Clone, Copy, Debug, PartialEq, Eq)]
@@ -51,8 +69,8 @@ pub struct TaskEntry {
 }
 
 // The resources and tasks that were entered, in order of their numbers.
-#[derive(Clone, Debug, Drop, PartialEq, Eq)]
+#[derive(Clone, Copy, Debug, PartialEq, Eq)]
 pub struct Layout {
-    pub resources: ArrayVec<Resource, MOST_RESOURCES>,
-    pub tasks: ArrayVec<Task, MOST_TASKS>,
+    pub resources: FixedList<Resource, MOST_RESOURCES>,
+    pub tasks: FixedList<Task, MOST_TASKS>,
 }

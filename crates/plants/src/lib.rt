@@ -5,6 +5,7 @@ mod bits;
 mod candidates;
 pub mod draft;
 mod entries;
+pub mod fixed_list;
 pub mod layout;
 pub mod logging;
 pub mod plant;

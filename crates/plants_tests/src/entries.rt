@@ -1,7 +1,8 @@
 // Both sides of every range, and every refusal with its value.
 // Its loops over ranges go over numbers of entries, which index nothing.
 use plants::draft::DraftPlant;
-use plants::layout::TaskEntry;
+use plants::fixed_list::FixedList;
+use plants::layout::{Layout, MOST_TASKS, TaskEntry};
 use systems::outcome::Answer;
 
 pub(crate) fn task(fields: [u32; 9]) -> TaskEntry {
@@ -124,4 +125,18 @@ fn room(rt: HostRuntime) {
         draft.add_task(task([256, 0, 0, 0, 0, 0, 99, 9, 999])),
         (4, 0)
     );
+}
+
+// A layout is copied whole, and stays usable.
+#[test]
+fn layouts_are_copied(rt: HostRuntime) {
+    let layout = Layout {
+        resources: FixedList::new(),
+        tasks: FixedList::new(),
+    };
+    let copied = layout;
+    assert!(rt; copied == layout);
+    assert_eq!(rt; layout.tasks.len(), 0);
+    assert!(rt; !copied.tasks.is_full());
+    assert!(rt; MOST_TASKS > copied.resources.len());
 }

@@ -10,4 +10,4 @@ invariant_of-self c =
     let l = c.args.self.now.layout in
     let v = valid_parts l c.args.self.now.valid in
     let room = resource_room l c.args.policy c.args.preempt v (ap accepts (sym c.check_resource.ensures ∙ c.in_ok-number.was)) in
-    record { valid = ap (λ rs. valid (record { resources = record { items = rs }; tasks = l.tasks })) c.push.ensures.items ∙ valid_with_resource l _ v room }
+    record { valid = ap (λ rs. valid (record { resources = rs; tasks = l.tasks })) c.push.ensures.items ∙ valid_with_resource l _ v room }

@@ -21,5 +21,5 @@ invariant_of-self c =
     let l = c.args.self.now.layout in
     let v = valid_parts l c.args.self.now.valid in
     let ok = admitted l c.args.task.now (ap accepts (sym c.check_task.ensures ∙ c.in_ok-number.was)) in
-    let tasks = c.push.ensures.items ∙ ap (λ t. l.tasks.items ++ t ∷ []) c.entered.ensures in
-    record { valid = ap (λ ts. valid (record { resources = l.resources; tasks = record { items = ts } })) tasks ∙ valid_with_task l c.args.task.now v ok }
+    let tasks = c.push.ensures.items ∙ ap (λ t. l.tasks ++ t ∷ []) c.entered.ensures in
+    record { valid = ap (λ ts. valid (record { resources = l.resources; tasks = ts })) tasks ∙ valid_with_task l c.args.task.now v ok }

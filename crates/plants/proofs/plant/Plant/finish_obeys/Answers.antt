@@ -4,7 +4,8 @@ use Rattle.std.proofs.Common.{◌≡◌, ℕ, ◌+◌, ◌<◌, ◌≤◌, Bool,
 use Rattle.std.proofs.lemmas.Bool.{ne_eqb, not_from_false, cases_lt}
 use Rattle.std.proofs.lemmas.Bool.Decides.{nat_tests}
 use Rattle.plants.specs.Bits.{bit}
-use Rattle.plants.specs.Layouts.{task_at, no_task, in_ranges, task_count}
+use Rattle.plants.specs.Unused.{no_task}
+use Rattle.plants.specs.Layouts.{task_at, in_ranges, task_count}
 use Rattle.plants.specs.Limits.{most_ticks}
 use Rattle.plants.specs.Records.{at, grown_by}
 use Rattle.plants.specs.Entered.{valid_parts}

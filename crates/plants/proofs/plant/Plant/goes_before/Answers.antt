@@ -1,6 +1,6 @@
 -- The task is on a resource that was entered.
 use Rattle.std.proofs.Common.{length, slice_index_or, ap, arith}
-use Rattle.plants.specs.Layouts.{no_task}
+use Rattle.plants.specs.Unused.{no_task}
 use Rattle.plants.specs.Entered.{valid_parts}
 use Rattle.plants.specs.Ticks.{within}
 use Rattle.plants.proofs.plant.Plant.goes_before.Goals as goal

@@ -2,7 +2,8 @@
 ghost use Rattle.std.specs.Prelude.{◌≡◌, ◌≤◌, List, [], ◌++◌, IfOk, if◌then◌else◌};
 ghost use Rattle.sessions.specs.Tables.{empty};
 ghost use Rattle.lines.specs.Spelling.{largest};
-ghost use Rattle.logs.specs.Answers.{Said, Narrow, answered, spelled};
+ghost use Rattle.lines.specs.declared.tag.Tag.TheVariants.{Fixd};
+ghost use Rattle.logs.specs.Answers.{Said, Narrow, is, answered, spelled};
 ghost use Rattle.logs.specs.Pieces.{lines_ahead};
 ghost use Rattle.logs.specs.Turns.{Turn, PlantDraft, ChartDraft, Memory, says, entered, fixed, task_of};
 ghost use Rattle.logs.specs.Serving.{logged, served};
@@ -106,6 +107,13 @@ impl Drafting for DraftPlant {
     }
 }
 
+// Whether a line fixes a draft.
+fn fixes(tag: Tag) -> bool
+    ensures { result ≡ is Fixd tag }
+{
+    tag == Tag::Fixd
+}
+
 // Answers lines until the draft is to be fixed, and says whether it is.
 pub(crate) fn draft_lines<D: Drafting>(
     progress: &mut Progress,
@@ -116,7 +124,7 @@ pub(crate) fn draft_lines<D: Drafting>(
     while let Some(line) = progress.next_line() {
         let tag = line.tag();
         progress.note(tag, draft.enter(&line))?;
-        if tag == Tag::Fixd {
+        if fixes(tag) {
             return Ok(true);
         }
     }
